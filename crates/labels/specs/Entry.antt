@@ -1,0 +1,37 @@
+-- Label entries: what reading bytes as one gives, and what writing one leaves. Assumes nothing.
+use mathlib.Core.Bool.{Bool, cond, _&&_}
+use mathlib.Core.List.{List, _∷_, _++_}
+use Prim.Native.Nat.{ℕ, _+_}
+use lib.Dec.{leb}
+use lib.ListN.{length, take, drop, getD}
+use Rattle.formulas.specs.Normal.{canonical, clauses}
+use Rattle.labels.specs.Order.{label}
+use Rattle.labels.specs.declared.Label.{Label}
+use Rattle.labels.specs.declared.Entry.{Entry}
+use Rattle.labels.specs.declared.Entry.the-variants.{Read, Malformed}
+
+-- ---- reading
+
+-- A label entry is two count bytes (S clauses, I clauses), then the masks.
+abbrev pub secrecyMasks : List ℕ → List ℕ
+secrecyMasks xs = take (getD xs 0 0) (drop 2 xs)
+
+abbrev pub integrityMasks : List ℕ → List ℕ
+integrityMasks xs = take (getD xs 1 0) (drop (2 + getD xs 0 0) xs)
+
+abbrev pub entryLength : List ℕ → ℕ
+entryLength xs = 2 + getD xs 0 0 + getD xs 1 0
+
+-- A formula has at most 20 clauses. Masks of one formula ascend strictly, none is a subset of another, each is at most 63.
+unfoldable pub wellFormed : List ℕ → Bool
+wellFormed xs =
+    leb 2 (length xs)
+    && leb (getD xs 0 0) 20
+    && leb (getD xs 1 0) 20
+    && leb (entryLength xs) (length xs)
+    && canonical 6 (secrecyMasks xs)
+    && canonical 6 (integrityMasks xs)
+
+-- the entry at the start of xs
+unfoldable pub readEntry : List ℕ → Entry
+readEntry xs = cond (wellFormed xs) (Read (label (secrecyMasks xs) (integrityMasks xs)) (entryLength xs)) Malformed
