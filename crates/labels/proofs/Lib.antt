@@ -2,3 +2,6 @@
 pub mod Words
 pub mod Masks
 pub mod Reading
+pub mod MaximalFalse
+pub mod Listing
+pub mod Writing

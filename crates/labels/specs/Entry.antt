@@ -9,6 +9,8 @@ use Rattle.labels.specs.Order.{label}
 use Rattle.labels.specs.declared.Label.{Label}
 use Rattle.labels.specs.declared.Entry.{Entry}
 use Rattle.labels.specs.declared.Entry.the-variants.{Read, Malformed}
+use Rattle.labels.specs.declared.Written.{Written}
+use Rattle.labels.specs.declared.Written.the-variants.{Bytes, TooShort}
 
 -- ---- reading
 
@@ -35,3 +37,23 @@ wellFormed xs =
 -- the entry at the start of xs
 unfoldable pub readEntry : List ℕ → Entry
 readEntry xs = cond (wellFormed xs) (Read (label (secrecyMasks xs) (integrityMasks xs)) (entryLength xs)) Malformed
+
+-- ---- writing
+
+-- The entry of a label has the one list of each of its tables.
+abbrev pub entryBytes : Label → List ℕ
+entryBytes l =
+    length (clauses 6 (l .secrecy))
+    ∷ length (clauses 6 (l .integrity))
+    ∷ (clauses 6 (l .secrecy) ++ clauses 6 (l .integrity))
+
+-- the buffer has room for the entry
+abbrev pub fits : Label → List ℕ → Bool
+fits l out = leb (length (entryBytes l)) (length out)
+
+unfoldable pub writeAnswer : Label → List ℕ → Written
+writeAnswer l out = cond (fits l out) (Bytes (length (entryBytes l))) TooShort
+
+-- the buffer afterwards: the entry at its start and the rest as it was, or all as it was
+unfoldable pub writeBuffer : Label → List ℕ → List ℕ
+writeBuffer l out = cond (fits l out) (entryBytes l ++ drop (length (entryBytes l)) out) out
