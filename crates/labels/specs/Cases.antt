@@ -27,7 +27,7 @@ oneWay a b = flows a b && not (flows b a)
 abbrev pub sameLabel : Label → Label → Bool
 sameLabel a b = eqb (a .secrecy) (b .secrecy) && eqb (a .integrity) (b .integrity)
 
--- formulas of one principal, as lists of clauses
+-- formulas, as lists of clauses
 abbrev pub player : List ℕ
 player = 0x01 ∷ []
 
@@ -37,6 +37,12 @@ dealer = 0x02 ∷ []
 abbrev pub bench : List ℕ
 bench = 0x04 ∷ []
 
+abbrev pub playerOrDealer : List ℕ
+playerOrDealer = 0x03 ∷ []
+
+abbrev pub playerAndDealer : List ℕ
+playerAndDealer = 0x01 ∷ 0x02 ∷ []
+
 abbrev pub labelCases : List Case
 labelCases =
     record { number = 1; holds = tableIs [] 0xFFFF_FFFF_FFFF_FFFF }
@@ -44,7 +50,7 @@ labelCases =
     ∷ record { number = 3; holds = tableIs (0x03 ∷ []) 0xEEEE_EEEE_EEEE_EEEE }
     ∷ record { number = 4; holds = tableIs (0x01 ∷ 0x02 ∷ []) 0x8888_8888_8888_8888 }
     ∷ record { number = 5; holds = tableIs (0x00 ∷ []) 0 }
-    ∷ record { number = 6; holds = oneWay (label (0x03 ∷ []) []) (label player []) }
+    ∷ record { number = 6; holds = oneWay (label playerOrDealer []) (label player []) }
     ∷ record { number = 7; holds = oneWay (label [] bench) (label [] []) }
-    ∷ record { number = 8; holds = sameLabel (join (label player []) (label dealer bench)) (label (0x01 ∷ 0x02 ∷ []) []) }
+    ∷ record { number = 8; holds = sameLabel (join (label player []) (label dealer bench)) (label playerAndDealer []) }
     ∷ []
