@@ -6,11 +6,15 @@ use mathlib.Core.Logic.{⊎-elim}
 use Prim.Native.Nat.{ℕ, _^_, _<_}
 use native.Mathlib.Omega.{arith}
 use lib.Dec.{T, ltb, ltb→lt, lt→ltb, T-not, not-T}
-use Rattle.formulas.specs.Formula.{Within, implies}
+use Rattle.formulas.specs.Formula.{implies}
 use Rattle.formulas.specs.Normal.{leads, canonical}
 use Rattle.formulas.proofs.Lists.{Asc}
 use Rattle.formulas.proofs.Sets.{subset-le}
 use Rattle.formulas.proofs.Tests.{T-and, T-left, T-right}
+
+-- the masks are sets of n principals
+abbrev pub Within : ℕ → List ℕ → Type 0
+Within n cs = (c : ℕ) → Mem c cs → c < 2 ^ n
 
 -- no two of the masks are comparable
 abbrev pub Apart : List ℕ → Type 0

@@ -1,6 +1,5 @@
 -- The laws of labels: `flows` is a partial order, join its least upper and meet its greatest lower bound. Assumes nothing.
 use mathlib.Core.Path.{_≡_, refl}
-use mathlib.Core.Bool.{Bool, _&&_}
 use mathlib.Core.Logic.{_↔_}
 use lib.Dec.{T}
 use Rattle.formulas.specs.Formula.{implies}

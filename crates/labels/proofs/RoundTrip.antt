@@ -12,13 +12,13 @@ use lib.Seq.{take-append-seam, drop-append-seam, take-append-add, drop-append-ad
 use Rattle.formulas.specs.Formula.{table}
 use Rattle.formulas.specs.Normal.{canonical, clauses}
 use Rattle.formulas.proofs.Clauses.{clauses-table}
-use Rattle.formulas.proofs.Normal.{normal, arises-canonical, at-most-20-clauses}
+use Rattle.formulas.proofs.Normal.{normal, at-most-20-clauses}
 use Rattle.labels.specs.Order.{label, Arising}
 use Rattle.labels.specs.Entry.{secrecyMasks, integrityMasks, entryLength, readEntry, entryBytes, fits, writeAnswer, writeBuffer}
 use Rattle.labels.specs.declared.Label.{Label}
 use Rattle.labels.specs.declared.Entry.the-variants.{Read}
 use Rattle.labels.specs.declared.Written.the-variants.{Bytes, TooShort}
-use Rattle.labels.proofs.Reading.{WellFormed, Reads, accepted, reads}
+use Rattle.labels.proofs.Reading.{WellFormed, accepted, reads}
 
 -- ---- reading what was written
 
@@ -103,10 +103,7 @@ module _ (xs : List ℕ) (l : Label) (n : ℕ) (e : readEntry xs ≡ Read l n) w
   pub read-arises : Arising l
   read-arises =
       let r = reads xs l n e in
-      subst Arising (r .is-label) (
-        arises-canonical 6 (secrecyMasks xs) (r .well .secrecy),
-        arises-canonical 6 (integrityMasks xs) (r .well .integrity),
-      )
+      subst Arising (r .is-label) ((secrecyMasks xs, refl), (integrityMasks xs, refl))
 
   pub read-within : (2 ≤ n) × (n ≤ length xs)
   read-within = let r = reads xs l n e in (omega (arith, r .is-length), omega (arith, r .is-length, r .well .whole))
