@@ -24,9 +24,13 @@ abbrev pub allBelow : ℕ → (ℕ → Bool) → Bool
 allBelow zero f = true
 allBelow (suc n) f = f n && allBelow n f
 
+-- the principal p is in the set x, or x with p is in the table t
+abbrev pub passesWith : ℕ → ℕ → ℕ → Bool
+passesWith t x p = bit x p || bit t (bitOr x (2 ^ p))
+
 -- the set x is not in the table t, and is with any one more of the n principals: a maximal false point of the formula
 unfoldable pub maximalFalse : ℕ → ℕ → ℕ → Bool
-maximalFalse n t x = not (bit t x) && allBelow n (λ p. bit x p || bit t (bitOr x (2 ^ p)))
+maximalFalse n t x = not (bit t x) && allBelow n (passesWith t x)
 
 abbrev pub consIf : Bool → ℕ → List ℕ → List ℕ
 consIf true c cs = c ∷ cs

@@ -6,7 +6,8 @@ use lib.Bits.{bitAnd, bitOr}
 use Rattle.formulas.specs.Formula.{Arises, table, implies}
 use Rattle.labels.specs.declared.Label.{Label}
 
--- A label ⟨S, I⟩ is a secrecy and an integrity formula, here over six principals.
+-- There are six principals, numbered 0 to 5: player, dealer, bench, archive, record company, guest.
+-- A label ⟨S, I⟩ is a secrecy and an integrity formula.
 abbrev pub label : List ℕ → List ℕ → Label
 label S I = record { secrecy = table 6 S; integrity = table 6 I }
 
