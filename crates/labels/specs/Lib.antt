@@ -1,0 +1,4 @@
+pub mod Bit
+pub mod Formula
+pub mod Order
+pub mod Entry
