@@ -1,6 +1,6 @@
--- Running: the opcodes with their operand bytes. Total: past the end of the code every byte is 00, and an opcode above 1D
--- is END; a file that has either is refused.
-use mathlib.Core.Bool.{Bool}
+-- Running: the opcodes with their operand bytes. Total: an opcode above 1D is END, and past the end of the code stands an
+-- END that nothing follows; no run of an accepted file comes to either.
+use mathlib.Core.Bool.{Bool, cond}
 use mathlib.Core.List.{List, [], _∷_}
 use Prim.Native.Nat.{ℕ, _+_, _*_}
 use lib.Dec.{ltb}
@@ -46,4 +46,4 @@ unfoldable pub fetch : List ℕ → ℕ → Instr
 fetch code pc = getD (instrs code (pc + 1)) (byte code pc) End
 
 unfoldable pub after : List ℕ → ℕ → ℕ
-after code pc = pc + size (byte code pc)
+after code pc = cond (ltb pc (length code)) (pc + size (byte code pc)) pc

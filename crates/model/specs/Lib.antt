@@ -3,4 +3,5 @@ pub mod State
 pub mod Decoding
 pub mod Operands
 pub mod Effects
+pub mod Inputs
 pub mod Running
