@@ -1,0 +1,4 @@
+-- Theorems on the definition of the machine.
+pub mod Tests
+pub mod Effects
+pub mod Fuel
