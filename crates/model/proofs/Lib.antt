@@ -1,4 +1,7 @@
 -- Theorems on the definition of the machine.
 pub mod Tests
+pub mod Places
 pub mod Effects
 pub mod Fuel
+pub mod Kept
+pub mod Plans
