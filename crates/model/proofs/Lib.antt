@@ -5,3 +5,5 @@ pub mod Effects
 pub mod Fuel
 pub mod Kept
 pub mod Plans
+pub mod LowEquivalence
+pub mod TwoRuns
