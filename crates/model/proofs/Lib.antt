@@ -7,3 +7,4 @@ pub mod Kept
 pub mod Plans
 pub mod LowEquivalence
 pub mod TwoRuns
+pub mod Start
