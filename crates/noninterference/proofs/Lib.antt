@@ -1,0 +1,4 @@
+-- Demand 3, and what it rests on.
+pub mod Laws
+pub mod Sections
+pub mod Demand3
