@@ -8,3 +8,4 @@ pub mod Plans
 pub mod LowEquivalence
 pub mod TwoRuns
 pub mod Start
+pub mod Bounds
