@@ -10,7 +10,7 @@ use lib.ListN.{length}
 use lib.Seq.{ext-getD}
 use Rattle.labels.specs.Order.{flows, join, meet}
 use Rattle.labels.specs.declared.Label.{Label}
-use Rattle.noninterference.proofs.Laws.{labels}
+use Rattle.labels.proofs.Laws.{labels}
 use Rattle.model.specs.State.{Program}
 use Rattle.model.specs.Decoding.{fetch, after}
 use Rattle.model.specs.Inputs.{Input, handles, inputSlots}

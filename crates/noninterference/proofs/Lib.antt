@@ -1,4 +1,3 @@
 -- Demand 3, and what it rests on.
-pub mod Laws
 pub mod Sections
 pub mod Demand3
