@@ -1,16 +1,16 @@
 -- The clauses of a formula that is canonical are the complements of its maximal false points, so that `clauses` gives back
 -- the list that a table came from, and a table has at most one. Assumes nothing.
 use mathlib.Core.Path.{_≡_, sym, ap, _∙_, subst}
-use mathlib.Core.Bool.{Bool, not, _&&_, _||_}
+use mathlib.Core.Bool.{Bool, not, _||_}
 use mathlib.Core.List.{List, List·Memᴰ as Mem, Memᴰ·cast as cast}
 use mathlib.Core.Logic.{⊎-elim}
 use Prim.Native.Nat.{ℕ, _-_, _^_, _<_, zero-le}
 use native.Mathlib.Omega.{arith}
 use lib.Dec.{T, T-not, not-T}
 use Rattle.formulas.specs.Bits.{bit}
-use Rattle.formulas.specs.Formula.{holds, satisfied, Within, table, implies}
+use Rattle.formulas.specs.Formula.{holds, satisfied, table, implies}
 use Rattle.formulas.specs.Normal.{canonical, allBelow, maximalFalse, selected, clauses}
-use Rattle.formulas.proofs.Canonical.{Apart, canon-lt, canon-asc, canon-apart}
+use Rattle.formulas.proofs.Canonical.{Within, Apart, canon-lt, canon-asc, canon-apart}
 use Rattle.formulas.proofs.Formula.{shares, holds-at, bit-table}
 use Rattle.formulas.proofs.Implication.{at-implies, implies-refl, implies-antisym}
 use Rattle.formulas.proofs.Lists.{allBelow-at, allBelow-of, asc-same, selected-in, selected-out, selected-asc}
@@ -36,7 +36,7 @@ module _ (n : ℕ) (cs : List ℕ) where
       (T-or (bit x p) (bit (table n cs) (Sets.adding x p))
       (allBelow-at n (grows x) p (T-right (not (bit (table n cs) x)) (allBelow n (grows x)) t) hp))
 
-  pub maximal-of : (x : ℕ) → x < 2 ^ n → (T (satisfied cs x) → ⊥)
+  maximal-of : (x : ℕ) → x < 2 ^ n → (T (satisfied cs x) → ⊥)
       → ((p : ℕ) → p < n → (T (bit x p) → ⊥) → T (satisfied cs (Sets.adding x p))) → T (maximalFalse n (table n cs) x)
   unfolding maximalFalse
   maximal-of x hx f g =

@@ -1,6 +1,6 @@
 -- Every formula over n principals has a canonical list with its table: `clauses` of its table. Assumes nothing.
 use mathlib.Core.Path.{_≡_, sym, _∙_, subst}
-use mathlib.Core.Bool.{not, _&&_}
+use mathlib.Core.Bool.{not}
 use mathlib.Core.List.{List, List·Memᴰ as Mem}
 use mathlib.Core.Logic.{⊎-elim}
 use Prim.Native.Nat.{ℕ, zero, suc, _+_, _-_, _^_, _≤_, _<_, zero-le}
@@ -8,7 +8,7 @@ use native.Mathlib.Omega.{arith}
 use lib.Arith.{lt-of-le-ne}
 use lib.Dec.{T, not-T}
 use Rattle.formulas.specs.Bits.{bit}
-use Rattle.formulas.specs.Formula.{holds, satisfied, Within, table, implies}
+use Rattle.formulas.specs.Formula.{holds, satisfied, table, implies}
 use Rattle.formulas.specs.Normal.{canonical, allBelow, maximalFalse, clauses}
 use Rattle.formulas.proofs.Canonical.{Apart, canon-of}
 use Rattle.formulas.proofs.Clauses.{grows, maximal-fails, maximal-more}

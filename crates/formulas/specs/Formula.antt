@@ -2,7 +2,7 @@
 -- A set of principals is a mask: the number below 2 ^ n whose digit p says whether principal p is a member.
 -- Assumes nothing.
 use mathlib.Core.Bool.{Bool, true, _&&_}
-use mathlib.Core.List.{List, [], _∷_, _++_, map, List·Memᴰ as Member}
+use mathlib.Core.List.{List, [], _∷_, _++_, map}
 use mathlib.Core.Path.{_≡_}
 use Prim.Native.Nat.{ℕ, _^_, _<_}
 use lib.Bits.{bitAnd, bitOr}
@@ -18,10 +18,6 @@ holds c x = nonzero (bitAnd c x)
 abbrev pub satisfied : List ℕ → ℕ → Bool
 satisfied [] x = true
 satisfied (c ∷ cs) x = holds c x && satisfied cs x
-
--- the clauses are over n principals
-abbrev pub Within : ℕ → List ℕ → Type 0
-Within n cs = (c : ℕ) → Member c cs → c < 2 ^ n
 
 -- One formula implies another: every set of the n principals that satisfies the first satisfies the second.
 abbrev pub Entails : ℕ → List ℕ → List ℕ → Type 0
@@ -44,6 +40,6 @@ table n cs = fromBits (2 ^ n) (satisfied cs)
 unfoldable pub implies : ℕ → ℕ → Bool
 implies a b = eqb (bitAnd a b) a
 
--- t is the table of some formula over n principals
+-- t can arise: it is the table of some formula
 abbrev pub Arises : ℕ → ℕ → Type 0
-Arises n t = (cs : List ℕ) × Within n cs × (t ≡ table n cs)
+Arises n t = (cs : List ℕ) × (t ≡ table n cs)

@@ -1,17 +1,16 @@
 -- What writing an entry leaves in the buffer, by the counts and the parts that the writer fills. Assumes nothing.
-use mathlib.Core.Path.{_≡_, refl, sym, ap, ap₂, _∙_}
+use mathlib.Core.Path.{_≡_, sym, ap, ap₂, _∙_}
 use mathlib.Core.Bool.{Bool, true, false, cond}
 use mathlib.Core.List.{List, [], _∷_, _++_, append-assoc}
 use Prim.Native.Nat.{ℕ, _+_, _-_, _≤_, _<_}
 use native.Mathlib.Omega.{arith}
 use borrow.Author.Tests.{le-leb, lt-leb}
 use borrow.Rule.Slice.PartMut.{putMid}
-use lib.ListN.{length, take, drop, set, length-append}
+use lib.ListN.{length, drop, set, length-append}
 use lib.Seq.{take-at, drop-at, drop-drop, drop-append-add}
 use Rattle.formulas.specs.Normal.{clauses}
 use Rattle.labels.specs.Entry.{entryBytes, fits, writeAnswer, writeBuffer}
 use Rattle.labels.specs.declared.Label.{Label}
-use Rattle.labels.specs.declared.Written.{Written}
 use Rattle.labels.specs.declared.Written.the-variants.{Bytes, TooShort}
 
 -- two counts, and two lists into the parts behind them

@@ -3,7 +3,7 @@ use mathlib.Core.Bool.{Bool, _&&_}
 use mathlib.Core.List.{List}
 use Prim.Native.Nat.{ℕ}
 use lib.Bits.{bitAnd, bitOr}
-use Rattle.formulas.specs.Formula.{table, implies}
+use Rattle.formulas.specs.Formula.{Arises, table, implies}
 use Rattle.labels.specs.declared.Label.{Label}
 
 -- A label ⟨S, I⟩ is a secrecy and an integrity formula, here over six principals.
@@ -21,3 +21,7 @@ join a b = record { secrecy = bitAnd (a .secrecy) (b .secrecy); integrity = bitO
 -- Meet is ⟨S or S', I and I'⟩.
 unfoldable pub meet : Label → Label → Label
 meet a b = record { secrecy = bitOr (a .secrecy) (b .secrecy); integrity = bitAnd (a .integrity) (b .integrity) }
+
+-- both tables of the label are those of formulas
+abbrev pub Arising : Label → Type 0
+Arising l = Arises 6 (l .secrecy) × Arises 6 (l .integrity)

@@ -1,6 +1,6 @@
 ghost use mathlib.Core.Path.{_≡_};
 ghost use mathlib.Core.Bool.{_||_};
-ghost use mathlib.Core.List.{[], _∷_, _++_};
+ghost use mathlib.Core.List.{[], _∷_};
 ghost use Prim.Native.Nat.{_<_, _≤_, _^_};
 ghost use lib.Bits.{bitOr};
 ghost use lib.ListN.{length, drop};
@@ -219,13 +219,13 @@ fn write_clauses(t: u64, out: &mut [u8])
     ensures { λ r. ⌜ now (out .exit) ≡ clauses 6 t ⌝ }
 {
     let mut n: usize = 0;
-    let mut c: u64 = 0;
-    while c < 64 {
-        if maximal_false(t, 63 - c) {
-            out[n] = c as u8;
+    let mut mask: u64 = 0;
+    while mask < 64 {
+        if maximal_false(t, 63 - mask) {
+            out[n] = mask as u8;
             n += 1;
         }
-        c += 1;
+        mask += 1;
     }
 }
 

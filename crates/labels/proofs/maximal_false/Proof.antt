@@ -1,12 +1,10 @@
 -- `labels::maximal_false` meets its contract. The loop's invariant: the principals below `p` pass. Assumes nothing.
-use mathlib.Core.Path.{_≡_, refl, sym, ap, _∙_, subst}
-use mathlib.Core.Bool.{false}
-use Prim.Native.Nat.{_≤_, _<_, _-_, _+_}
+use mathlib.Core.Path.{sym, _∙_}
+use Prim.Native.Nat.{_≤_, _-_}
 use native.Mathlib.Omega.{arith}
 use borrow.Author.Needs.{needs}
 use borrow.Author.Tests.{not-true, not-false}
 use lib.Dec.{T}
-use Rattle.formulas.specs.Bits.{bit}
 use Rattle.formulas.specs.Normal.{allBelow}
 use Rattle.labels.proofs.MaximalFalse.{grows, maximal-in, maximal-stops, grows-next, maximal-is}
 use Rattle.labels.proofs.maximal_false.Statement.{statement}

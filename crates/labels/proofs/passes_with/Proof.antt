@@ -1,5 +1,4 @@
 -- `labels::passes_with` meets its contract. Assumes nothing.
-use mathlib.Core.Path.{_≡_, sym, ap, _∙_}
 use Rattle.formulas.proofs.Sets.{adding-lt}
 use borrow.Author.Needs.{needs}
 use Rattle.labels.proofs.passes_with.Statement.{statement}

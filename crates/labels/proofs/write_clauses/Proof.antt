@@ -9,10 +9,10 @@ use Rattle.labels.proofs.write_clauses.Statement.{statement}
 use Rattle.labels.proofs.write_clauses.Tie as tie
 
 abbrev Inv-loop : tie.InvT-loop
-Inv-loop t out₀ n₀ c₀ out n c = Writing t out n c
+Inv-loop t out₀ n₀ mask₀ out n mask = Writing t out n mask
 
 abbrev μ-loop : tie.MeasureT-loop
-μ-loop t out₀ n₀ c₀ out n c = 64 - c
+μ-loop t out₀ n₀ mask₀ out n mask = 64 - mask
 
 loop-holds : tie.Need-loop-holds Inv-loop μ-loop
 loop-holds c = write-start _ _ (c .before .pre)
@@ -29,13 +29,13 @@ cast-out c = omega arith
 slice-write-out : tie.Need-slice-write-out Inv-loop μ-loop
 slice-write-out c =
     let l = c .before .before .before .loop in
-    has-room (c .before .before .before .before .before .args .t) (l .out) (l .n) (l .c) (l .inv) (omega arith) (sym (c .before .maximal-false .ensures) ∙ c .if1 .taken)
+    has-room (c .before .before .before .before .before .args .t) (l .out) (l .n) (l .mask) (l .inv) (omega arith) (sym (c .before .maximal-false .ensures) ∙ c .if1 .taken)
 
 add-n : tie.Need-add-n Inv-loop μ-loop
 add-n c = omega arith
 
-add-c : tie.Need-add-c Inv-loop μ-loop
-add-c c = omega arith
+add-mask : tie.Need-add-mask Inv-loop μ-loop
+add-mask c = omega arith
 
 loop-less : tie.Need-loop-less Inv-loop μ-loop
 loop-less c = omega arith
@@ -45,10 +45,10 @@ loop-again c =
     let t = c .before .before .before .before .before .args .t in
     let l = c .before .before .before .loop in
     ⊎-elim
-    (λ w. subst₂ (λ (o : List ℕ) (k : ℕ). Writing t o k (l .c + 1)) (sym (w .1)) (sym (w .2))
-    (write-one t (l .out) (l .n) (l .c) (l .inv) (omega arith) _ refl (sym (c .before .maximal-false .ensures) ∙ w .0 .taken)))
-    (λ w. subst₂ (λ (o : List ℕ) (k : ℕ). Writing t o k (l .c + 1)) (sym (w .1)) (sym (w .2))
-    (write-on t (l .out) (l .n) (l .c) (l .inv) (omega arith) (sym (c .before .maximal-false .ensures) ∙ w .0 .left)))
+    (λ w. subst₂ (λ (o : List ℕ) (k : ℕ). Writing t o k (l .mask + 1)) (sym (w .1)) (sym (w .2))
+    (write-one t (l .out) (l .n) (l .mask) (l .inv) (omega arith) _ refl (sym (c .before .maximal-false .ensures) ∙ w .0 .taken)))
+    (λ w. subst₂ (λ (o : List ℕ) (k : ℕ). Writing t o k (l .mask + 1)) (sym (w .1)) (sym (w .2))
+    (write-on t (l .out) (l .n) (l .mask) (l .inv) (omega arith) (sym (c .before .maximal-false .ensures) ∙ w .0 .left)))
     (c .if1 .came)
 
 same-length : tie.Need-same-length Inv-loop μ-loop
@@ -69,7 +69,7 @@ write-clauses-spec =
     cast-out
     slice-write-out
     add-n
-    add-c
+    add-mask
     loop-less
     loop-again
     same-length
