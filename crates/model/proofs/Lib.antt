@@ -9,3 +9,4 @@ pub mod LowEquivalence
 pub mod TwoRuns
 pub mod Start
 pub mod Bounds
+pub mod Landing

@@ -320,7 +320,7 @@ module _ (P : Program) (Low : Label → Bool) (D : LowSet P Low) where
   perform-two R RK RT c a σ τ fσ fτ g s (faults code) i = fail-two code 0 c a σ τ g s
   perform-two R RK RT c a σ τ fσ fτ g s (asks r q) i = act-two R RK RT c r a σ τ fσ fτ g (i .0) s q (i .1)
 
-  step-two : (R : Runner) → RunnerKept P Low D R → RunnerTwo R → (c : Control) (a : Account) (σ τ : Store) → Fresh a σ → Fresh a τ
+  pub step-two : (R : Runner) → RunnerKept P Low D R → RunnerTwo R → (c : Control) (a : Account) (σ τ : Store) → Fresh a σ → Fresh a τ
       → Reach (Twin σ τ) c → LowEquivalent P Low σ τ → LowNext P Low (step P R c a σ) (step P R c a τ)
   unfolding step
   step-two R RK RT c a σ τ fσ fτ g s =
