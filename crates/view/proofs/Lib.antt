@@ -1,0 +1,2 @@
+-- Theorems on the definition of the view.
+pub mod SameView
