@@ -1,10 +1,8 @@
-use mathlib.Core.Bool.{Bool, true, false, _&&_}
-use mathlib.Core.List.{List, [], _∷_, _++_}
+-- All that is stated here is computed by the checker from the definitions; the lines under each statement open them.
+use mathlib.Core.Bool.{true}
+use mathlib.Core.List.{_++_}
 use mathlib.Core.Path.{_≡_, refl}
-use Prim.Native.Nat.{ℕ}
-use lib.ListN.{length}
 use Rattle.formulas.specs.Formula.{table, implies, holds}
-use Rattle.formulas.specs.Normal.{maximalFalse}
 use Rattle.labels.specs.Order.{flows, join, meet}
 use Rattle.labels.specs.Entry.{wellFormed, readEntry}
 use Rattle.model.specs.Decoding.{u16, u32, operandBytes, known, size, instrs, fetch, after}
@@ -16,9 +14,18 @@ use Rattle.script_file.specs.Sections.{header, labelBytes, recordBytes, codeByt
 use Rattle.script_file.specs.Sweep.{sweep, starts, operandsOk, instrOk, mayBeLast, codeOk}
 use Rattle.script_file.specs.Checks.{every, sizeOk, countsOk, offsetsOk, recordsOk, passes1, passes2, passes3, passes4, passes5, passes6, passes7, refusal}
 use Rattle.script_file.specs.Program.{fileInputs, fileProgram, fileAccount, fileRun}
-use Rattle.view.specs.Layout.{littleEndian, labelField, datumField, contentsField, resultField, kindByte, recordField, slotField}
-use Rattle.cases.specs.Machine.{holds9, holds10, holds11, holds12}
+use Rattle.labels.specs.Cases.{allHold}
+use Rattle.view.specs.Layout.{littleEndian, labelField, datumField, contentsField, endingNumber, resultField, kindByte, recordField, shown, slotField, recordFields, recordsShown, counts, final, viewLength, view}
+use Rattle.view.specs.Reading.{fileView}
+use Rattle.view.specs.Lines.{hex, frontFields, recordFieldWidths, widths, spaced, line, lines, refusedLine, printed}
+use Rattle.cases.specs.Table.{table as cases}
+use Rattle.cases.specs.Example.{example, exampleLine}
 
-pub all : every (holds9 ∷ holds10 ∷ holds11 ∷ holds12 ∷ []) ≡ true
+-- P1 to P12
+pub all-cases-hold : allHold cases ≡ true
 unfolding table implies holds flows join meet wellFormed readEntry u16 u32 operandBytes known size instrs fetch after popFrom asNumber asLabel asHandle asSealed asReference arity dropFrame operate plan inputs handles inputSlots failTo yield openSlot labelSlot writeSlot contentsOf outcome act perform step resume pay run runs startStore header labelBytes recordBytes codeBytes readLabels fileLabels labelAt sweep starts operandsOk instrOk mayBeLast codeOk every sizeOk countsOk offsetsOk recordsOk passes1 passes2 passes3 passes4 passes5 passes6 passes7 refusal fileInputs fileProgram fileAccount fileRun littleEndian labelField datumField contentsField resultField kindByte recordField slotField
-all = refl
+all-cases-hold = refl
+
+pub example-printed : printed example ≡ exampleLine ++ exampleLine
+unfolding table implies holds flows join meet wellFormed readEntry u16 u32 operandBytes known size instrs fetch after popFrom asNumber asLabel asHandle asSealed asReference arity dropFrame operate plan inputs handles inputSlots failTo yield openSlot labelSlot writeSlot contentsOf outcome act perform step resume pay run runs startStore header labelBytes recordBytes codeBytes readLabels fileLabels labelAt sweep starts operandsOk instrOk mayBeLast codeOk every sizeOk countsOk offsetsOk recordsOk passes1 passes2 passes3 passes4 passes5 passes6 passes7 refusal fileInputs fileProgram fileAccount fileRun littleEndian labelField datumField contentsField resultField kindByte recordField slotField endingNumber shown recordFields recordsShown counts final viewLength view fileView hex frontFields recordFieldWidths widths spaced line lines refusedLine printed
+example-printed = refl
