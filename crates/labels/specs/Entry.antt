@@ -1,35 +1,37 @@
--- A formula in its file form. Assumes nothing.
-use mathlib.Core.Bool.{Bool, true, false}
-use mathlib.Core.List.{List}
-use Prim.Native.Nat.{ℕ, _+_, _-_}
-use lib.Dec.{ltb}
+-- Label entries: what reading bytes as one gives, and what writing one leaves. Assumes nothing.
+use mathlib.Core.Bool.{Bool, cond, _&&_}
+use mathlib.Core.List.{List, _∷_, _++_}
+use Prim.Native.Nat.{ℕ, _+_}
+use lib.Dec.{leb}
 use lib.ListN.{length, take, drop, getD}
-use Rattle.labels.specs.Formula.{table, canonical}
-use Rattle.labels.specs.declared.Parsed.{Parsed}
-use Rattle.labels.specs.declared.Parsed.the-variants.{Table, Malformed}
+use Rattle.formulas.specs.Normal.{canonical, clauses}
+use Rattle.labels.specs.Order.{label}
 use Rattle.labels.specs.declared.Label.{Label}
 use Rattle.labels.specs.declared.Entry.{Entry}
-use Rattle.labels.specs.declared.Entry.the-variants.{Read, Malformed as EntryMalformed}
+use Rattle.labels.specs.declared.Entry.the-variants.{Read, Malformed}
 
-abbrev pub pickFormula : Bool → Parsed → Parsed → Parsed
-pickFormula true a b = a
-pickFormula false a b = b
+-- ---- reading
 
-abbrev pub readFormula : List ℕ → Parsed
-readFormula cs = pickFormula (canonical 6 cs) (Table (table 6 cs)) Malformed
+-- A label entry is two count bytes (S clauses, I clauses), then the masks.
+abbrev pub secrecyMasks : List ℕ → List ℕ
+secrecyMasks xs = take (getD xs 0 0) (drop 2 xs)
 
-abbrev pub pickEntry : Bool → Entry → Entry → Entry
-pickEntry true a b = a
-pickEntry false a b = b
+abbrev pub integrityMasks : List ℕ → List ℕ
+integrityMasks xs = take (getD xs 1 0) (drop (2 + getD xs 0 0) xs)
 
-abbrev pub entryOf : Parsed → Parsed → ℕ → Entry
-entryOf Malformed i e = EntryMalformed
-entryOf (Table s) Malformed e = EntryMalformed
-entryOf (Table s) (Table i) e = Read (record { secrecy = s; integrity = i }) e
+abbrev pub entryLength : List ℕ → ℕ
+entryLength xs = 2 + getD xs 0 0 + getD xs 1 0
 
--- two counts, then the masks of the secrecy and of the integrity formula
-abbrev pub readEntry : List ℕ → Entry
-readEntry xs =
-    pickEntry (ltb (length xs) 2) EntryMalformed
-    (pickEntry (ltb (length xs) (2 + getD xs 0 0 + getD xs 1 0)) EntryMalformed
-    (entryOf (readFormula (take (getD xs 0 0) (drop 2 xs))) (readFormula (take (getD xs 1 0) (drop (2 + getD xs 0 0) xs))) (2 + getD xs 0 0 + getD xs 1 0)))
+-- A formula has at most 20 clauses. Masks of one formula ascend strictly, none is a subset of another, each is at most 63.
+unfoldable pub wellFormed : List ℕ → Bool
+wellFormed xs =
+    leb 2 (length xs)
+    && leb (getD xs 0 0) 20
+    && leb (getD xs 1 0) 20
+    && leb (entryLength xs) (length xs)
+    && canonical 6 (secrecyMasks xs)
+    && canonical 6 (integrityMasks xs)
+
+-- the entry at the start of xs
+unfoldable pub readEntry : List ℕ → Entry
+readEntry xs = cond (wellFormed xs) (Read (label (secrecyMasks xs) (integrityMasks xs)) (entryLength xs)) Malformed

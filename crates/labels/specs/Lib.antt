@@ -1,4 +1,3 @@
-pub mod Bit
-pub mod Formula
+-- The definitions that the contracts of `labels` cite.
 pub mod Order
 pub mod Entry

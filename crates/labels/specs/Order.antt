@@ -1,18 +1,23 @@
--- The order of labels, join and meet (paper 01, "Labels"), on tables. Nothing here depends on the number of principals.
--- Assumes nothing.
+-- Labels: their order, join and meet, on tables. Assumes nothing.
 use mathlib.Core.Bool.{Bool, _&&_}
+use mathlib.Core.List.{List}
+use Prim.Native.Nat.{ℕ}
 use lib.Bits.{bitAnd, bitOr}
-use Rattle.labels.specs.Formula.{implies}
+use Rattle.formulas.specs.Formula.{table, implies}
 use Rattle.labels.specs.declared.Label.{Label}
 
--- ⟨S, I⟩ flows to ⟨S', I'⟩ if S' implies S and I implies I'
+-- A label ⟨S, I⟩ is a secrecy and an integrity formula, here over six principals.
+abbrev pub label : List ℕ → List ℕ → Label
+label S I = record { secrecy = table 6 S; integrity = table 6 I }
+
+-- ⟨S, I⟩ flows to ⟨S', I'⟩ if and only if S' implies S and I implies I'.
 unfoldable pub flows : Label → Label → Bool
 flows a b = implies (b .secrecy) (a .secrecy) && implies (a .integrity) (b .integrity)
 
--- ⟨S and S', I or I'⟩
+-- Join is ⟨S and S', I or I'⟩.
 unfoldable pub join : Label → Label → Label
 join a b = record { secrecy = bitAnd (a .secrecy) (b .secrecy); integrity = bitOr (a .integrity) (b .integrity) }
 
--- ⟨S or S', I and I'⟩
+-- Meet is ⟨S or S', I and I'⟩.
 unfoldable pub meet : Label → Label → Label
 meet a b = record { secrecy = bitOr (a .secrecy) (b .secrecy); integrity = bitAnd (a .integrity) (b .integrity) }

@@ -1,14 +1,191 @@
+ghost use mathlib.Core.Path.{_≡_};
+ghost use mathlib.Core.Bool.{_||_};
+ghost use mathlib.Core.List.{[], _∷_, _++_};
+ghost use Prim.Native.Nat.{_<_, _≤_, _^_};
+ghost use lib.Bits.{bitOr};
+ghost use lib.ListN.{length, drop};
+ghost use Rattle.formulas.specs.Bits.{bit};
+ghost use Rattle.formulas.specs.Formula.{table, implies};
+ghost use Rattle.formulas.specs.Normal.{leads, canonical, maximalFalse, clauses};
+ghost use Rattle.labels.specs.Order.{flows, join, meet};
+ghost use Rattle.labels.specs.Entry.{readEntry};
+
+// A label ⟨S, I⟩: the tables of its secrecy and its integrity formula. Bit i of a table stands for the set of
+// principals whose mask is i.
 pub struct Label {
     pub secrecy: u64,
     pub integrity: u64,
 }
 
-pub enum Parsed {
-    Table(u64),
+// What reading a label entry finds.
+pub enum Entry {
+    // A label, and how many bytes its entry has.
+    Read(Label, usize),
     Malformed,
 }
 
-pub enum Entry {
-    Read(Label, usize),
-    Malformed,
+// What writing a label entry comes to.
+pub enum Written {
+    // How many bytes the entry has.
+    Bytes(usize),
+    // The buffer has no room for the entry, and is untouched.
+    TooShort,
+}
+
+// ---- the order of labels
+
+// Whether ⟨S, I⟩ flows to ⟨S', I'⟩: S' implies S, and I implies I'.
+pub fn flows(a: Label, b: Label) -> bool
+    ensures { λ r. ⌜ r ≡ flows a b ⌝ }
+{
+    implies(b.secrecy, a.secrecy) && implies(a.integrity, b.integrity)
+}
+
+// The least label that both flow to: ⟨S and S', I or I'⟩.
+pub fn join(a: Label, b: Label) -> Label
+    ensures { λ r. ⌜ r ≡ join a b ⌝ }
+{
+    Label {
+        secrecy: a.secrecy & b.secrecy,
+        integrity: a.integrity | b.integrity,
+    }
+}
+
+// The greatest label that flows to both: ⟨S or S', I and I'⟩.
+pub fn meet(a: Label, b: Label) -> Label
+    ensures { λ r. ⌜ r ≡ meet a b ⌝ }
+{
+    Label {
+        secrecy: a.secrecy | b.secrecy,
+        integrity: a.integrity & b.integrity,
+    }
+}
+
+// Whether every set in the table `a` is in the table `b`.
+fn implies(a: u64, b: u64) -> bool
+    ensures { λ r. ⌜ r ≡ implies a b ⌝ }
+{
+    a & !b == 0
+}
+
+// ---- reading a label entry
+
+// The label entry at the start of `s`: two counts of clauses, then the masks of both formulas.
+pub fn read_entry(s: &[u8]) -> Entry
+    ensures { λ r. ⌜ r ≡ readEntry (now (s .entry)) ⌝ }
+{
+    if s.len() < 2 {
+        return Entry::Malformed;
+    }
+    let m = s[0] as usize;
+    let n = s[1] as usize;
+    if 20 < m {
+        return Entry::Malformed;
+    }
+    if 20 < n {
+        return Entry::Malformed;
+    }
+    let a = 2 + m;
+    let e = a + n;
+    if s.len() < e {
+        return Entry::Malformed;
+    }
+    if !canonical(&s[2..a]) {
+        return Entry::Malformed;
+    }
+    if !canonical(&s[a..e]) {
+        return Entry::Malformed;
+    }
+    let secrecy = table_of(&s[2..a]);
+    let integrity = table_of(&s[a..e]);
+    Entry::Read(Label { secrecy, integrity }, e)
+}
+
+// Whether the masks ascend strictly, none is a subset of another, and each is at most 63.
+fn canonical(masks: &[u8]) -> bool
+    ensures { λ r. ⌜ r ≡ canonical 6 (now (masks .entry)) ⌝ }
+{
+    let mut i = 0;
+    while i < masks.len() {
+        let c = wide(masks[i]);
+        if 64 <= c {
+            return false;
+        }
+        if !leads(c, masks, i + 1) {
+            return false;
+        }
+        i += 1;
+    }
+    true
+}
+
+// Whether the clause `c` may stand before the masks from `from` on: it is below each, and a subset of none.
+fn leads(c: u64, masks: &[u8], from: usize) -> bool
+    requires { ⌜ from ≤ length (now masks) ⌝ }
+    ensures { λ r. ⌜ r ≡ leads c (drop from (now (masks .entry))) ⌝ }
+{
+    let mut j = from;
+    while j < masks.len() {
+        let d = wide(masks[j]);
+        if d <= c {
+            return false;
+        }
+        if c & d == c {
+            return false;
+        }
+        j += 1;
+    }
+    true
+}
+
+// The table of the formula with the clauses `masks`: the AND of their tables.
+fn table_of(masks: &[u8]) -> u64
+    ensures { λ r. ⌜ r ≡ table 6 (now (masks .entry)) ⌝ }
+{
+    let mut t: u64 = 0xFFFF_FFFF_FFFF_FFFF;
+    let mut i = 0;
+    while i < masks.len() {
+        t = t & clause_table(wide(masks[i]));
+        i += 1;
+    }
+    t
+}
+
+// The table of one clause: the OR of the tables of its members.
+fn clause_table(mask: u64) -> u64
+    ensures { λ r. ⌜ r ≡ table 6 (mask ∷ []) ⌝ }
+{
+    let mut t: u64 = 0;
+    let mut p: usize = 0;
+    while p < 6 {
+        if has(mask, p as u64) {
+            t = t | SINGLE[p];
+        }
+        p += 1;
+    }
+    t
+}
+
+// At p, the table of the clause with the one member p.
+const SINGLE: [u64; 6] = [
+    0xAAAA_AAAA_AAAA_AAAA,
+    0xCCCC_CCCC_CCCC_CCCC,
+    0xF0F0_F0F0_F0F0_F0F0,
+    0xFF00_FF00_FF00_FF00,
+    0xFFFF_0000_FFFF_0000,
+    0xFFFF_FFFF_0000_0000,
+];
+
+// Bit `i` of `t`: whether the set `i` is in the table `t`, or the principal `i` in the set `t`.
+fn has(t: u64, i: u64) -> bool
+    requires { ⌜ i < 64 ⌝ }
+    ensures { λ r. ⌜ r ≡ bit t i ⌝ }
+{
+    t >> i & 1 != 0
+}
+
+fn wide(x: u8) -> u64
+    ensures { λ r. ⌜ r ≡ x ⌝ }
+{
+    x as u64
 }

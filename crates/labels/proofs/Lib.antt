@@ -1,0 +1,4 @@
+-- Theorems on the definitions of specs/, and lemmas for the proofs of the functions.
+pub mod Words
+pub mod Masks
+pub mod Reading

@@ -1,0 +1,78 @@
+-- What reading an entry gives, by the tests that the reader makes. Assumes nothing.
+use mathlib.Core.Path.{_≡_, refl, sym, ap, _∙_}
+use mathlib.Core.Bool.{Bool, true, false, cond, _&&_}
+use mathlib.Core.List.{List}
+use Prim.Native.Nat.{ℕ, _+_, _-_, _≤_}
+use native.Mathlib.Omega.{arith}
+use lib.Dec.{T, leb, leb→le, le→leb}
+use lib.ListN.{length, take, drop, getD}
+use Rattle.formulas.specs.Normal.{canonical}
+use Rattle.formulas.proofs.Tests.{T-and, T-left, T-right, T-same, T-true}
+use Rattle.labels.specs.Order.{label}
+use Rattle.labels.specs.Entry.{secrecyMasks, integrityMasks, entryLength, wellFormed, readEntry}
+use Rattle.labels.specs.declared.Entry.{Entry}
+use Rattle.labels.specs.declared.Entry.the-variants.{Read, Malformed}
+
+pub record WellFormed (xs : List ℕ) : Type 0 where
+  pub counts : 2 ≤ length xs
+  pub few-secrecy : getD xs 0 0 ≤ 20
+  pub few-integrity : getD xs 1 0 ≤ 20
+  pub whole : entryLength xs ≤ length xs
+  pub secrecy : T (canonical 6 (secrecyMasks xs))
+  pub integrity : T (canonical 6 (integrityMasks xs))
+
+module _ (a b c d e f : Bool) where
+  all-six : T a → T b → T c → T d → T e → T f → T (a && b && c && d && e && f)
+  all-six p q r s t u =
+      T-and (a && b && c && d && e) f (T-and (a && b && c && d) e (T-and (a && b && c) d (T-and (a && b) c (T-and a b p q) r) s) t) u
+
+  each-of-six : T (a && b && c && d && e && f) → T a × T b × T c × T d × T e × T f
+  each-of-six p =
+      let p5 = T-left (a && b && c && d && e) f p in
+      let p4 = T-left (a && b && c && d) e p5 in
+      let p3 = T-left (a && b && c) d p4 in
+      let p2 = T-left (a && b) c p3 in
+      (T-left a b p2, T-right a b p2, T-right (a && b) c p3, T-right (a && b && c) d p4, T-right (a && b && c && d) e p5, T-right (a && b && c && d && e) f p)
+
+module _ (xs : List ℕ) where
+  pub well-formed : T (wellFormed xs) → WellFormed xs
+  unfolding wellFormed
+  well-formed t =
+      let w = each-of-six (leb 2 (length xs)) (leb (getD xs 0 0) 20) (leb (getD xs 1 0) 20) (leb (entryLength xs) (length xs))
+      (canonical 6 (secrecyMasks xs)) (canonical 6 (integrityMasks xs)) t in
+      record {
+        counts = leb→le 2 (length xs) (w .0);
+        few-secrecy = leb→le (getD xs 0 0) 20 (w .1);
+        few-integrity = leb→le (getD xs 1 0) 20 (w .2);
+        whole = leb→le (entryLength xs) (length xs) (w .3);
+        secrecy = w .4;
+        integrity = w .5;
+      }
+
+  pub passes : WellFormed xs → T (wellFormed xs)
+  unfolding wellFormed
+  passes w =
+      all-six (leb 2 (length xs)) (leb (getD xs 0 0) 20) (leb (getD xs 1 0) 20) (leb (entryLength xs) (length xs))
+      (canonical 6 (secrecyMasks xs)) (canonical 6 (integrityMasks xs))
+      (le→leb 2 (length xs) (w .counts)) (le→leb (getD xs 0 0) 20 (w .few-secrecy)) (le→leb (getD xs 1 0) 20 (w .few-integrity))
+      (le→leb (entryLength xs) (length xs) (w .whole)) (w .secrecy) (w .integrity)
+
+  abbrev pub found : Entry
+  found = Read (label (secrecyMasks xs) (integrityMasks xs)) (entryLength xs)
+
+  pub accepted : WellFormed xs → found ≡ readEntry xs
+  unfolding readEntry
+  accepted w = sym (ap (λ (b : Bool). cond b found Malformed) (T-true (wellFormed xs) (passes w)))
+
+  pub refused : (WellFormed xs → ⊥) → Malformed ≡ readEntry xs
+  unfolding readEntry
+  refused f = sym (ap (λ (b : Bool). cond b found Malformed) (T-same (wellFormed xs) false (λ t. f (well-formed t)) (λ t. absurd t)))
+
+  -- ---- the parts of the slice that the reader takes
+
+  pub secrecy-part : take (2 + getD xs 0 0 - 2) (drop 2 xs) ≡ secrecyMasks xs
+  secrecy-part = ap (λ (m : ℕ). take m (drop 2 xs)) (let e : 2 + getD xs 0 0 - 2 ≡ getD xs 0 0 = omega arith in e)
+
+  pub integrity-part : take (entryLength xs - (2 + getD xs 0 0)) (drop (2 + getD xs 0 0) xs) ≡ integrityMasks xs
+  integrity-part =
+      ap (λ (m : ℕ). take m (drop (2 + getD xs 0 0) xs)) (let e : entryLength xs - (2 + getD xs 0 0) ≡ getD xs 1 0 = omega arith in e)

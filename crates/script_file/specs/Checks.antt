@@ -1,0 +1,79 @@
+-- Stopped by the file: checks 1 to 7. "The lowest number that applies is returned."
+use mathlib.Core.Bool.{Bool, true, false, _&&_}
+use mathlib.Core.List.{List, [], _∷_}
+use mathlib.Core.Option.{Option, none, some}
+use Prim.Native.Nat.{ℕ, zero, suc, _+_, _*_}
+use lib.Dec.{leb, ltb, eqb}
+use lib.ListN.{length}
+use Rattle.labels.specs.Order.{flows}
+use Rattle.labels.specs.declared.Label.{Label}
+use Rattle.model.specs.Decoding.{byte}
+use Rattle.script_file.specs.Sections.{header, recordBytes, codeBytes, fileLabels, labelAt}
+use Rattle.script_file.specs.Sweep.{codeOk}
+use Rattle.script_file.specs.declared.Header.{Header}
+
+-- every test of a list holds
+unfoldable pub every : List Bool → Bool
+every [] = true
+every (t ∷ ts) = t && every ts
+
+-- 1: "Under 16 bytes or over 65,535."
+unfoldable pub sizeOk : ℕ → Bool
+sizeOk n = every (leb 16 n ∷ leb n 65535 ∷ [])
+
+-- 2: "A count outside its limits."
+unfoldable pub countsOk : Header → Bool
+countsOk h =
+    every
+    (leb 2 (h .labels .count) ∷ leb (h .labels .count) 32 ∷ leb (h .records .count) 64 ∷ leb 1 (h .code .count)
+    ∷ leb (h .code .count) 4096 ∷ leb 1 (h .steps) ∷ leb (h .records .count) (h .places) ∷ leb (h .places) 256 ∷ [])
+
+-- 3: "Labels offset not 16, records offset under 16, code offset not records offset + 6C, or file length not code
+-- offset + N." The sums are exact, not modulo 2 ^ 16.
+unfoldable pub offsetsOk : Header → ℕ → Bool
+offsetsOk h n =
+    every
+    (eqb (h .labels .offset) 16 ∷ leb 16 (h .records .offset)
+    ∷ eqb (h .code .offset) (h .records .offset + 6 * h .records .count) ∷ eqb n (h .code .offset + h .code .count) ∷ [])
+
+-- 4: "A label entry malformed or cut, or the L entries don't end at the records offset."
+abbrev pub present : Option (List Label) → Bool
+present none = false
+present (some ls) = true
+
+-- 6: "A record's kind above 1 or label index L or more", of n records from byte i on
+unfoldable pub recordsOk : ℕ → List ℕ → ℕ → ℕ → Bool
+recordsOk l bs zero i = true
+recordsOk l bs (suc n) i = (leb (byte bs i) 1 && ltb (byte bs (i + 1)) l) && recordsOk l bs n (i + 6)
+
+-- what each check finds in a file, whatever the others find: true where it does not apply
+unfoldable pub passes1 : List ℕ → Bool
+passes1 bs = sizeOk (length bs)
+
+unfoldable pub passes2 : List ℕ → Bool
+passes2 bs = countsOk (header bs)
+
+unfoldable pub passes3 : List ℕ → Bool
+passes3 bs = offsetsOk (header bs) (length bs)
+
+unfoldable pub passes4 : List ℕ → Bool
+passes4 bs = present (fileLabels bs)
+
+-- 5: "Label 0 doesn't flow to label 1."
+unfoldable pub passes5 : List ℕ → Bool
+passes5 bs = flows (labelAt bs 0) (labelAt bs 1)
+
+unfoldable pub passes6 : List ℕ → Bool
+passes6 bs = recordsOk (header bs .labels .count) (recordBytes bs) (header bs .records .count) 0
+
+unfoldable pub passes7 : List ℕ → Bool
+passes7 bs = codeOk (header bs .labels .count) (header bs .records .count) (codeBytes bs)
+
+-- the number of the first test that fails, counting from n; 0 where none does
+abbrev pub lowest : ℕ → List Bool → ℕ
+lowest n [] = 0
+lowest n (true ∷ ts) = lowest (suc n) ts
+lowest n (false ∷ ts) = n
+
+unfoldable pub refusal : List ℕ → ℕ
+refusal bs = lowest 1 (passes1 bs ∷ passes2 bs ∷ passes3 bs ∷ passes4 bs ∷ passes5 bs ∷ passes6 bs ∷ passes7 bs ∷ [])

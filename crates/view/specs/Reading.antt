@@ -1,0 +1,44 @@
+-- Reading a file for a label into a buffer: the answer, and the whole buffer afterwards. Checks 1 to 9.
+use mathlib.Core.Bool.{Bool, cond}
+use mathlib.Core.List.{List, [], _∷_, _++_}
+use Prim.Native.Nat.{ℕ}
+use lib.Dec.{leb, ltb, eqb}
+use lib.ListN.{length, drop}
+use Rattle.labels.specs.Order.{flows}
+use Rattle.labels.specs.declared.Label.{Label}
+use Rattle.script_file.specs.Sections.{header, labelAt}
+use Rattle.script_file.specs.Checks.{refusal}
+use Rattle.script_file.specs.Program.{fileRun}
+use Rattle.view.specs.Layout.{view}
+
+pub data Answer : Type 0 where
+  -- with a number from 1 to 9
+  refused : ℕ → Answer
+  -- with the view's length
+  viewed : ℕ → Answer
+
+pub record Reading : Type 0 where
+  pub answer : Answer
+  pub buffer : List ℕ
+
+-- what the label with index i is shown of a file that loads
+unfoldable pub fileView : List ℕ → ℕ → List ℕ
+fileView bs i = view (λ l. flows l (labelAt bs i)) (header bs .steps) (fileRun bs)
+
+-- "the output buffer is untouched"
+abbrev pub refuse : ℕ → List ℕ → Reading
+refuse n buffer = record { answer = refused n; buffer = buffer }
+
+-- "The buffer beyond the length is untouched." 9: the buffer is shorter than the view.
+abbrev pub show : List ℕ → List ℕ → Reading
+show v buffer =
+    cond (leb (length v) (length buffer))
+    (record { answer = viewed (length v); buffer = v ++ drop (length v) buffer })
+    (refuse 9 buffer)
+
+-- 8: the reading label's index is L or more
+unfoldable pub reading : List ℕ → ℕ → List ℕ → Reading
+reading bs i buffer =
+    cond (eqb (refusal bs) 0)
+    (cond (ltb i (header bs .labels .count)) (show (fileView bs i) buffer) (refuse 8 buffer))
+    (refuse (refusal bs) buffer)

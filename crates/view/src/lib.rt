@@ -1,0 +1,1 @@
+// The view: what a reading label is shown of a run.
