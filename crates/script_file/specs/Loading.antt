@@ -1,9 +1,9 @@
 -- What loading a file gives: the answer, and the words of the labels.
 use mathlib.Core.Bool.{cond}
-use mathlib.Core.List.{List, [], _∷_, _++_}
-use Prim.Native.Nat.{ℕ, zero, suc, _-_}
+use mathlib.Core.List.{List, [], _∷_}
+use Prim.Native.Nat.{ℕ, zero, suc}
 use lib.Dec.{eqb}
-use lib.ListN.{length, getD, replicate}
+use lib.ListN.{getD}
 use Rattle.labels.specs.declared.Label.{Label}
 use Rattle.script_file.specs.Sections.{header, fileLabels, orNone}
 use Rattle.script_file.specs.Checks.{refusal}
@@ -40,13 +40,19 @@ answer (suc n) h = Refused (getD refusals n Code)
 unfoldable pub loaded : List ℕ → Loaded
 loaded bs = answer (refusal bs) (header bs)
 
--- labels as words: label i at words 2 i and 2 i + 1 of 64, and 0 behind them
+-- labels as words: label i at words 2 i and 2 i + 1
 abbrev pub tables : List Label → List ℕ
 tables [] = []
 tables (l ∷ ls) = l .secrecy ∷ (l .integrity ∷ tables ls)
 
+-- n words of a list: 0 behind its end
+abbrev pub padded : ℕ → List ℕ → List ℕ
+padded zero xs = []
+padded (suc n) [] = 0 ∷ padded n []
+padded (suc n) (x ∷ xs) = x ∷ padded n xs
+
 unfoldable pub labelWords : List Label → List ℕ
-labelWords ls = tables ls ++ replicate (64 - length (tables ls)) 0
+labelWords ls = padded 64 (tables ls)
 
 -- what stands in the lent words afterwards: the labels of a file that loads, else what stood there
 unfoldable pub wordsAfter : List ℕ → List ℕ → List ℕ

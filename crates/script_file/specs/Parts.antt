@@ -1,12 +1,14 @@
 -- What the functions that load a file share with each other. No part of the definition.
 use mathlib.Core.Bool.{Bool, true, false}
 use mathlib.Core.List.{List, [], _∷_}
-use mathlib.Core.Option.{Option, none, some}
+use mathlib.Core.Option.{Option}
 use mathlib.Core.Path.{_≡_}
 use Prim.Native.Nat.{ℕ, _+_, _*_, _<_, _^_}
-use lib.ListN.{getD, set, replicate}
+use lib.ListN.{getD, set}
 use Rattle.labels.specs.declared.Label.{Label}
 use Rattle.model.specs.declared.Instr.{Instr}
+use Rattle.script_file.specs.Sections.{orNone}
+use Rattle.script_file.specs.Checks.{present}
 use Rattle.script_file.specs.Sweep.{among, operandsOk}
 use Rattle.script_file.specs.Loading.{labelWords}
 use Rattle.script_file.specs.declared.Section.{Section}
@@ -22,9 +24,9 @@ pub record Shorts (h : Header) : Type 0 where
   pub records : Short (h .records)
   pub code : Short (h .code)
 
+-- the labels that a section gives, none where it is malformed
 abbrev pub tableOf : Option (List Label) → Table
-tableOf none = record { whole = false; words = replicate 64 0 }
-tableOf (some ls) = record { whole = true; words = labelWords ls }
+tableOf o = record { whole = present o; words = labelWords (orNone o) }
 
 abbrev pub labelIn : List ℕ → ℕ → Label
 labelIn ws i = record { secrecy = getD ws (2 * i) 0; integrity = getD ws (2 * i + 1) 0 }

@@ -313,7 +313,13 @@ fn instrs_ok(code: &[u8], marks: &[bool], labels: usize, inputs: usize) -> bool
 fn may_be_last(op: u8) -> bool
     ensures { λ r. ⌜ r ≡ mayBeLast op ⌝ }
 {
-    op == 0x00 || op == 0x0A || op == 0x1C
+    if op == 0x00 {
+        return true;
+    }
+    if op == 0x0A {
+        return true;
+    }
+    op == 0x1C
 }
 
 // Check 7.
