@@ -1,0 +1,1 @@
+// No code: the bench cases P1 to P12 are in specs/, the fact that all of them hold in proofs/.
