@@ -9,9 +9,8 @@ ghost use Rattle.model.specs.Decoding.{u16};
 ghost use Rattle.script_file.specs.Sections.{section, header, readLabels};
 ghost use Rattle.script_file.specs.Sweep.{starts, all, lastOf, operandsOk, instrOk, mayBeLast, codeOk};
 ghost use Rattle.script_file.specs.Checks.{sizeOk, countsOk, offsetsOk, recordsOk};
-ghost use Rattle.script_file.specs.Loading.{loaded, wordsAfter};
+ghost use Rattle.script_file.specs.Loading.{number, loaded, wordsAfter};
 ghost use Rattle.script_file.specs.Parts.{Short, Shorts, tableOf, labelIn, mark, Marks, OperandsIn};
-use decode::Decoded;
 use labels::Entry;
 use labels::Label;
 use model::Instr;
@@ -46,6 +45,21 @@ pub enum Refusal {
 pub enum Loaded {
     Refused(Refusal),
     File(Header),
+}
+
+// The number of a refusal.
+pub fn number(r: Refusal) -> u64
+    ensures { λ n. ⌜ n ≡ number r ⌝ }
+{
+    match r {
+        Refusal::Size => 1,
+        Refusal::Counts => 2,
+        Refusal::Offsets => 3,
+        Refusal::Labels => 4,
+        Refusal::Start => 5,
+        Refusal::Records => 6,
+        Refusal::Code => 7,
+    }
 }
 
 // The labels of a file: label i at words 2 i and 2 i + 1. Zeros where the section is malformed.

@@ -12,6 +12,8 @@ use borrow.Author.Needs.{needs}
 use Rattle.script_file.proofs.code_ok.Statement.{statement}
 use Rattle.script_file.proofs.code_ok.Tie as tie
 
+-- `script_file::code_ok` meets its contract.
+
 slice-aggregate-mark-starts : tie.Need-slice-aggregate-mark-starts
 slice-aggregate-mark-starts c = search needs
 

@@ -5,6 +5,8 @@ use Rattle.script_file.proofs.Tests.{last-decides}
 use Rattle.script_file.proofs.counts_ok.Statement.{statement}
 use Rattle.script_file.proofs.counts_ok.Tie as tie
 
+-- `script_file::counts_ok` meets its contract: each test that fails is one of the check's.
+
 returns : tie.Need-returns
 unfolding countsOk every
 returns c = rw (lt-leb _ _ (c .if1 .taken))

@@ -11,6 +11,8 @@ use borrow.Author.Needs.{needs}
 use Rattle.script_file.proofs.instrs_ok.Statement.{statement}
 use Rattle.script_file.proofs.instrs_ok.Tie as tie
 
+-- `script_file::instrs_ok` meets its contract: what is left of the sweep decides.
+
 abbrev Inv-loop : tie.InvT-loop
 Inv-loop code marks labels inputs i₀ i = all (instrOk labels inputs code) (from code 0) ≡ all (instrOk labels inputs code) (from code i)
 

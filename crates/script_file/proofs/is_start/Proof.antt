@@ -7,6 +7,8 @@ use borrow.Author.Needs.{needs}
 use Rattle.script_file.proofs.is_start.Statement.{statement}
 use Rattle.script_file.proofs.is_start.Tie as tie
 
+-- `script_file::is_start` meets its contract.
+
 shared-slice-read-result : tie.Need-shared-slice-read-result
 shared-slice-read-result c = search needs
 

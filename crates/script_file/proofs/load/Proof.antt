@@ -15,6 +15,8 @@ use borrow.Author.Needs.{needs}
 use Rattle.script_file.proofs.load.Statement.{statement}
 use Rattle.script_file.proofs.load.Tie as tie
 
+-- `script_file::load` meets its contract: each check in turn, by what its function finds.
+
 size-ok-requires : tie.Need-size-ok-requires
 size-ok-requires c κs = search needs
 
@@ -56,36 +58,17 @@ returns-3 c = let bs = c .before .before .before .before .before .before .before
     ))
 
 sub-read-labels : tie.Need-sub-read-labels
-sub-read-labels c = let bs = c .before .before .before .before .before .before .before .before .before .before .before .args .file .now in
-    let h = c .before .before .before .before .before .before .before .read-header .result in
-    let is = c .before .before .before .before .before .before .before .read-header .ensures .0 in
-    let counts = counted h (sym (c .before .before .before .before .before .before .counts-ok .ensures) ∙ not-false _ (c .before .before .before .before .before .if2 .left)) in
-    let placing = placed h (length bs) (sym (c .before .before .before .before .offsets-ok .ensures) ∙ not-false _ (c .before .before .before .if3 .left)) in
-    omega arith
+sub-read-labels c = placed _ _ (sym (c .before .before .before .before .offsets-ok .ensures) ∙ not-false _ (c .before .before .before .if3 .left)) .records
 
 part-read-labels-start : tie.Need-part-read-labels-start
-part-read-labels-start c = let bs = c .before .before .before .before .before .before .before .before .before .before .before .args .file .now in
-    let h = c .before .before .before .before .before .before .before .read-header .result in
-    let is = c .before .before .before .before .before .before .before .read-header .ensures .0 in
-    let counts = counted h (sym (c .before .before .before .before .before .before .counts-ok .ensures) ∙ not-false _ (c .before .before .before .before .before .if2 .left)) in
-    let placing = placed h (length bs) (sym (c .before .before .before .before .offsets-ok .ensures) ∙ not-false _ (c .before .before .before .if3 .left)) in
-    omega arith
+part-read-labels-start c = placed _ _ (sym (c .before .before .before .before .offsets-ok .ensures) ∙ not-false _ (c .before .before .before .if3 .left)) .records
 
 part-read-labels-end : tie.Need-part-read-labels-end
-part-read-labels-end c = let bs = c .before .before .before .before .before .before .before .before .before .before .before .args .file .now in
-    let h = c .before .before .before .before .before .before .before .read-header .result in
-    let is = c .before .before .before .before .before .before .before .read-header .ensures .0 in
-    let counts = counted h (sym (c .before .before .before .before .before .before .counts-ok .ensures) ∙ not-false _ (c .before .before .before .before .before .if2 .left)) in
-    let placing = placed h (length bs) (sym (c .before .before .before .before .offsets-ok .ensures) ∙ not-false _ (c .before .before .before .if3 .left)) in
+part-read-labels-end c = let placing = placed _ _ (sym (c .before .before .before .before .offsets-ok .ensures) ∙ not-false _ (c .before .before .before .if3 .left)) in
     omega arith
 
 read-labels-requires : tie.Need-read-labels-requires
-read-labels-requires c κs = let bs = c .before .before .before .before .before .before .before .before .before .before .before .before .args .file .now in
-    let h = c .before .before .before .before .before .before .before .before .read-header .result in
-    let is = c .before .before .before .before .before .before .before .before .read-header .ensures .0 in
-    let counts = counted h (sym (c .before .before .before .before .before .before .before .counts-ok .ensures) ∙ not-false _ (c .before .before .before .before .before .before .if2 .left)) in
-    let placing = placed h (length bs) (sym (c .before .before .before .before .before .offsets-ok .ensures) ∙ not-false _ (c .before .before .before .before .if3 .left)) in
-    omega arith
+read-labels-requires c κs = counted _ (sym (c .before .before .before .before .before .before .before .counts-ok .ensures) ∙ not-false _ (c .before .before .before .before .before .before .if2 .left)) .labels
 
 returns-4 : tie.Need-returns-4
 unfolding refusal
@@ -120,36 +103,19 @@ returns-5 c = let bs = c .before .before .before .before .before .before .before
     ))
 
 sub-records-ok : tie.Need-sub-records-ok
-sub-records-ok c = let bs = c .before .before .before .before .before .before .before .before .before .before .before .before .before .before .before .before .before .before .args .file .now in
-    let h = c .before .before .before .before .before .before .before .before .before .before .before .before .before .before .read-header .result in
-    let is = c .before .before .before .before .before .before .before .before .before .before .before .before .before .before .read-header .ensures .0 in
-    let counts = counted h (sym (c .before .before .before .before .before .before .before .before .before .before .before .before .before .counts-ok .ensures) ∙ not-false _ (c .before .before .before .before .before .before .before .before .before .before .before .before .if2 .left)) in
-    let placing = placed h (length bs) (sym (c .before .before .before .before .before .before .before .before .before .before .before .offsets-ok .ensures) ∙ not-false _ (c .before .before .before .before .before .before .before .before .before .before .if3 .left)) in
+sub-records-ok c = let placing = placed _ _ (sym (c .before .before .before .before .before .before .before .before .before .before .before .offsets-ok .ensures) ∙ not-false _ (c .before .before .before .before .before .before .before .before .before .before .if3 .left)) in
     omega arith
 
 part-records-ok-start : tie.Need-part-records-ok-start
-part-records-ok-start c = let bs = c .before .before .before .before .before .before .before .before .before .before .before .before .before .before .before .before .before .before .args .file .now in
-    let h = c .before .before .before .before .before .before .before .before .before .before .before .before .before .before .read-header .result in
-    let is = c .before .before .before .before .before .before .before .before .before .before .before .before .before .before .read-header .ensures .0 in
-    let counts = counted h (sym (c .before .before .before .before .before .before .before .before .before .before .before .before .before .counts-ok .ensures) ∙ not-false _ (c .before .before .before .before .before .before .before .before .before .before .before .before .if2 .left)) in
-    let placing = placed h (length bs) (sym (c .before .before .before .before .before .before .before .before .before .before .before .offsets-ok .ensures) ∙ not-false _ (c .before .before .before .before .before .before .before .before .before .before .if3 .left)) in
+part-records-ok-start c = let placing = placed _ _ (sym (c .before .before .before .before .before .before .before .before .before .before .before .offsets-ok .ensures) ∙ not-false _ (c .before .before .before .before .before .before .before .before .before .before .if3 .left)) in
     omega arith
 
 part-records-ok-end : tie.Need-part-records-ok-end
-part-records-ok-end c = let bs = c .before .before .before .before .before .before .before .before .before .before .before .before .before .before .before .before .before .before .args .file .now in
-    let h = c .before .before .before .before .before .before .before .before .before .before .before .before .before .before .read-header .result in
-    let is = c .before .before .before .before .before .before .before .before .before .before .before .before .before .before .read-header .ensures .0 in
-    let counts = counted h (sym (c .before .before .before .before .before .before .before .before .before .before .before .before .before .counts-ok .ensures) ∙ not-false _ (c .before .before .before .before .before .before .before .before .before .before .before .before .if2 .left)) in
-    let placing = placed h (length bs) (sym (c .before .before .before .before .before .before .before .before .before .before .before .offsets-ok .ensures) ∙ not-false _ (c .before .before .before .before .before .before .before .before .before .before .if3 .left)) in
+part-records-ok-end c = let placing = placed _ _ (sym (c .before .before .before .before .before .before .before .before .before .before .before .offsets-ok .ensures) ∙ not-false _ (c .before .before .before .before .before .before .before .before .before .before .if3 .left)) in
     omega arith
 
 records-ok-requires : tie.Need-records-ok-requires
-records-ok-requires c κs = let bs = c .before .before .before .before .before .before .before .before .before .before .before .before .before .before .before .before .before .before .before .args .file .now in
-    let h = c .before .before .before .before .before .before .before .before .before .before .before .before .before .before .before .read-header .result in
-    let is = c .before .before .before .before .before .before .before .before .before .before .before .before .before .before .before .read-header .ensures .0 in
-    let counts = counted h (sym (c .before .before .before .before .before .before .before .before .before .before .before .before .before .before .counts-ok .ensures) ∙ not-false _ (c .before .before .before .before .before .before .before .before .before .before .before .before .before .if2 .left)) in
-    let placing = placed h (length bs) (sym (c .before .before .before .before .before .before .before .before .before .before .before .before .offsets-ok .ensures) ∙ not-false _ (c .before .before .before .before .before .before .before .before .before .before .before .if3 .left)) in
-    omega arith
+records-ok-requires c κs = counted _ (sym (c .before .before .before .before .before .before .before .before .before .before .before .before .before .before .counts-ok .ensures) ∙ not-false _ (c .before .before .before .before .before .before .before .before .before .before .before .before .before .if2 .left)) .records
 
 returns-6 : tie.Need-returns-6
 unfolding refusal
@@ -169,19 +135,11 @@ returns-6 c = let bs = c .before .before .before .before .before .before .before
     ))
 
 sub-code-ok : tie.Need-sub-code-ok
-sub-code-ok c = let bs = c .before .before .before .before .before .before .before .before .before .before .before .before .before .before .before .before .before .before .before .before .before .args .file .now in
-    let h = c .before .before .before .before .before .before .before .before .before .before .before .before .before .before .before .before .before .read-header .result in
-    let is = c .before .before .before .before .before .before .before .before .before .before .before .before .before .before .before .before .before .read-header .ensures .0 in
-    let counts = counted h (sym (c .before .before .before .before .before .before .before .before .before .before .before .before .before .before .before .before .counts-ok .ensures) ∙ not-false _ (c .before .before .before .before .before .before .before .before .before .before .before .before .before .before .before .if2 .left)) in
-    let placing = placed h (length bs) (sym (c .before .before .before .before .before .before .before .before .before .before .before .before .before .before .offsets-ok .ensures) ∙ not-false _ (c .before .before .before .before .before .before .before .before .before .before .before .before .before .if3 .left)) in
+sub-code-ok c = let placing = placed _ _ (sym (c .before .before .before .before .before .before .before .before .before .before .before .before .before .before .offsets-ok .ensures) ∙ not-false _ (c .before .before .before .before .before .before .before .before .before .before .before .before .before .if3 .left)) in
     omega arith
 
 part-code-ok-start : tie.Need-part-code-ok-start
-part-code-ok-start c = let bs = c .before .before .before .before .before .before .before .before .before .before .before .before .before .before .before .before .before .before .before .before .before .args .file .now in
-    let h = c .before .before .before .before .before .before .before .before .before .before .before .before .before .before .before .before .before .read-header .result in
-    let is = c .before .before .before .before .before .before .before .before .before .before .before .before .before .before .before .before .before .read-header .ensures .0 in
-    let counts = counted h (sym (c .before .before .before .before .before .before .before .before .before .before .before .before .before .before .before .before .counts-ok .ensures) ∙ not-false _ (c .before .before .before .before .before .before .before .before .before .before .before .before .before .before .before .if2 .left)) in
-    let placing = placed h (length bs) (sym (c .before .before .before .before .before .before .before .before .before .before .before .before .before .before .offsets-ok .ensures) ∙ not-false _ (c .before .before .before .before .before .before .before .before .before .before .before .before .before .if3 .left)) in
+part-code-ok-start c = let placing = placed _ _ (sym (c .before .before .before .before .before .before .before .before .before .before .before .before .before .before .offsets-ok .ensures) ∙ not-false _ (c .before .before .before .before .before .before .before .before .before .before .before .before .before .if3 .left)) in
     omega arith
 
 part-code-ok-end : tie.Need-part-code-ok-end
@@ -189,11 +147,9 @@ part-code-ok-end c = search needs
 
 code-ok-requires : tie.Need-code-ok-requires
 code-ok-requires c κs = let bs = c .before .before .before .before .before .before .before .before .before .before .before .before .before .before .before .before .before .before .before .before .before .before .args .file .now in
-    let h = c .before .before .before .before .before .before .before .before .before .before .before .before .before .before .before .before .before .before .read-header .result in
-    let is = c .before .before .before .before .before .before .before .before .before .before .before .before .before .before .before .before .before .before .read-header .ensures .0 in
-    let counts = counted h (sym (c .before .before .before .before .before .before .before .before .before .before .before .before .before .before .before .before .before .counts-ok .ensures) ∙ not-false _ (c .before .before .before .before .before .before .before .before .before .before .before .before .before .before .before .before .if2 .left)) in
-    let placing = placed h (length bs) (sym (c .before .before .before .before .before .before .before .before .before .before .before .before .before .before .before .offsets-ok .ensures) ∙ not-false _ (c .before .before .before .before .before .before .before .before .before .before .before .before .before .before .if3 .left)) in
-    let part = ap length (part-to-end bs (h .code .offset)) ∙ length-drop (h .code .offset) bs in
+    let counts = counted _ (sym (c .before .before .before .before .before .before .before .before .before .before .before .before .before .before .before .before .before .counts-ok .ensures) ∙ not-false _ (c .before .before .before .before .before .before .before .before .before .before .before .before .before .before .before .before .if2 .left)) in
+    let placing = placed _ _ (sym (c .before .before .before .before .before .before .before .before .before .before .before .before .before .before .before .offsets-ok .ensures) ∙ not-false _ (c .before .before .before .before .before .before .before .before .before .before .before .before .before .before .if3 .left)) in
+    let part = ap length (part-to-end bs (c .before .before .before .before .before .before .before .before .before .before .before .before .before .before .before .before .before .before .read-header .result .code .offset)) ∙ length-drop (c .before .before .before .before .before .before .before .before .before .before .before .before .before .before .before .before .before .before .read-header .result .code .offset) bs in
     omega arith
 
 returns-7 : tie.Need-returns-7

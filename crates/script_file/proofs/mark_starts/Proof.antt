@@ -12,6 +12,8 @@ use borrow.Author.Needs.{needs}
 use Rattle.script_file.proofs.mark_starts.Statement.{statement}
 use Rattle.script_file.proofs.mark_starts.Tie as tie
 
+-- `script_file::mark_starts` meets its contract: what is left of the sweep makes the rest of the marks.
+
 abbrev Inv-loop : tie.InvT-loop
 Inv-loop code marks₀ last₀ i₀ marks last i = (length marks ≡ length marks₀) × (mark (from code 0) marks₀ ≡ mark (from code i) marks) × (lastOf 0 (from code 0) ≡ lastOf last (from code i))
 

@@ -6,6 +6,8 @@ use borrow.Author.Needs.{needs}
 use Rattle.script_file.proofs.offsets_ok.Statement.{statement}
 use Rattle.script_file.proofs.offsets_ok.Tie as tie
 
+-- `script_file::offsets_ok` meets its contract: each test that fails is one of the check's.
+
 returns : tie.Need-returns
 unfolding offsetsOk every
 returns c = rw (ne-eqb _ _ (c .if1 .taken))

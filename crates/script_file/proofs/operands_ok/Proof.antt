@@ -5,6 +5,8 @@ use borrow.Author.Needs.{needs}
 use Rattle.script_file.proofs.operands_ok.Statement.{statement}
 use Rattle.script_file.proofs.operands_ok.Tie as tie
 
+-- `script_file::operands_ok` meets its contract: each arm by its instruction.
+
 enum-told : tie.Need-enum-told
 enum-told c = search needs
 

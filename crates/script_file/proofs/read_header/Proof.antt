@@ -4,6 +4,8 @@ use borrow.Author.Needs.{needs}
 use Rattle.script_file.proofs.read_header.Statement.{statement}
 use Rattle.script_file.proofs.read_header.Tie as tie
 
+-- `script_file::read_header` meets its contract.
+
 section-at-requires : tie.Need-section-at-requires
 section-at-requires c κs = search needs
 

@@ -16,6 +16,8 @@ use borrow.Author.Needs.{needs}
 use Rattle.script_file.proofs.read_labels.Statement.{statement}
 use Rattle.script_file.proofs.read_labels.Tie as tie
 
+-- `script_file::read_labels` meets its contract: what is left of the section makes the rest of the words.
+
 abbrev Inv-loop : tie.InvT-loop
 Inv-loop bytes count words₀ at₀ i₀ words at i = (i ≤ count) × (at ≤ length bytes) × (tableOf (readLabels count bytes) ≡ tableFrom i words (readLabels (count - i) (drop at bytes)))
 

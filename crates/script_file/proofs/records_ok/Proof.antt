@@ -8,6 +8,8 @@ use borrow.Author.Needs.{needs}
 use Rattle.script_file.proofs.records_ok.Statement.{statement}
 use Rattle.script_file.proofs.records_ok.Tie as tie
 
+-- `script_file::records_ok` meets its contract: what is left of the records decides.
+
 abbrev Inv-loop : tie.InvT-loop
 Inv-loop bytes count labels i₀ i = (i ≤ count) × (recordsOk labels bytes count 0 ≡ recordsOk labels bytes (count - i) (6 * i))
 

@@ -3,6 +3,8 @@ use borrow.Author.Needs.{needs}
 use Rattle.script_file.proofs.section_at.Statement.{statement}
 use Rattle.script_file.proofs.section_at.Tie as tie
 
+-- `script_file::section_at` meets its contract.
+
 number-at-requires : tie.Need-number-at-requires
 number-at-requires c κs = search needs
 

@@ -5,6 +5,8 @@ use Rattle.script_file.proofs.Tests.{last-decides}
 use Rattle.script_file.proofs.size_ok.Statement.{statement}
 use Rattle.script_file.proofs.size_ok.Tie as tie
 
+-- `script_file::size_ok` meets its contract.
+
 returns : tie.Need-returns
 unfolding sizeOk every
 returns c = rw (lt-leb _ _ (c .if1 .taken))
