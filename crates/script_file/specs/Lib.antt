@@ -3,3 +3,5 @@ pub mod Sections
 pub mod Sweep
 pub mod Checks
 pub mod Program
+pub mod Loading
+pub mod Parts

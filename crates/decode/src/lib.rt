@@ -1,0 +1,214 @@
+// Instruction decoding: one decoder for the file's checks and for the machine.
+ghost use mathlib.Core.Path.{_≡_};
+ghost use Prim.Native.Nat.{_<_, _^_};
+ghost use lib.ListN.{length, getD};
+ghost use Rattle.model.specs.declared.Instr.the-variants.{End};
+ghost use Rattle.model.specs.Decoding.{byte, u16, u32, known, size, instrs, fetch, after};
+ghost use Rattle.model.specs.Operands.{arity};
+use model::Arity;
+use model::Instr;
+
+// How many operand bytes follow each opcode, 00 to 1D: the only place where the lengths stand.
+const OPERAND_BYTES: [u8; 30] = [
+    0,
+    4,
+    1,
+    1,
+    1,
+    0,
+    0,
+    0,
+    0,
+    0,
+    2,
+    2,
+    0,
+    0,
+    0,
+    0,
+    0,
+    0,
+    0,
+    0,
+    0,
+    0,
+    0,
+    0,
+    0,
+    5,
+    2,
+    0,
+    0,
+    1,
+];
+
+pub struct Decoded {
+    pub instr: Instr,
+    // where the next instruction starts
+    pub after: usize,
+}
+
+// Past the end stands 0.
+pub fn byte_at(s: &[u8], i: usize) -> u8
+    ensures { λ r. ⌜ r ≡ byte (now (s .entry)) i ⌝ }
+{
+    if i < s.len() {
+        return s[i];
+    }
+    0
+}
+
+pub fn u16_at(s: &[u8], i: usize) -> u16
+    requires { ⌜ i < 2 ^ 40 ⌝ }
+    ensures { λ r. ⌜ r ≡ u16 (now (s .entry)) i ⌝ }
+{
+    let low = byte_at(s, i) as u16;
+    let high = byte_at(s, i + 1) as u16;
+    low + 256 * high
+}
+
+pub fn u32_at(s: &[u8], i: usize) -> u32
+    requires { ⌜ i < 2 ^ 32 ⌝ }
+    ensures { λ r. ⌜ r ≡ u32 (now (s .entry)) i ⌝ }
+{
+    let low = u16_at(s, i) as u32;
+    let high = u16_at(s, i + 2) as u32;
+    low + 65536 * high
+}
+
+pub fn known(op: u8) -> bool
+    ensures { λ r. ⌜ r ≡ known op ⌝ }
+{
+    op < 30
+}
+
+// The bytes of an instruction, by its opcode.
+pub fn size_of(op: u8) -> usize
+    ensures { λ r. ⌜ r ≡ size op ⌝ }
+{
+    let k = op as usize;
+    if k < 30 {
+        return 1 + OPERAND_BYTES[k] as usize;
+    }
+    1
+}
+
+// An operand of one byte or of two, as an index.
+fn index_at(s: &[u8], i: usize) -> usize
+    ensures { λ r. ⌜ r ≡ byte (now (s .entry)) i ⌝ }
+{
+    byte_at(s, i) as usize
+}
+
+fn target_at(s: &[u8], i: usize) -> usize
+    requires { ⌜ i < 2 ^ 40 ⌝ }
+    ensures { λ r. ⌜ r ≡ u16 (now (s .entry)) i ⌝ }
+{
+    u16_at(s, i) as usize
+}
+
+// The instruction with opcode `op` whose operands stand at `i`.
+fn instr_at(code: &[u8], op: u8, i: usize) -> Instr
+    requires { ⌜ i < 2 ^ 32 ⌝ }
+    ensures { λ r. ⌜ r ≡ getD (instrs (now (code .entry)) i) op End ⌝ }
+{
+    match op {
+        0 => Instr::End,
+        1 => Instr::Push(u32_at(code, i)),
+        2 => Instr::Lab(index_at(code, i)),
+        3 => Instr::Get(index_at(code, i)),
+        4 => Instr::Set(index_at(code, i)),
+        5 => Instr::Pop,
+        6 => Instr::Add,
+        7 => Instr::Sub,
+        8 => Instr::Less,
+        9 => Instr::Same,
+        10 => Instr::Jump(target_at(code, i)),
+        11 => Instr::Ifz(target_at(code, i)),
+        12 => Instr::Cur,
+        13 => Instr::Clr,
+        14 => Instr::Raise,
+        15 => Instr::Lower,
+        16 => Instr::Flows,
+        17 => Instr::Join,
+        18 => Instr::Meet,
+        19 => Instr::Seal,
+        20 => Instr::Open,
+        21 => Instr::Labof,
+        22 => Instr::New,
+        23 => Instr::Read,
+        24 => Instr::Write,
+        25 => Instr::Block(
+            target_at(code, i),
+            target_at(code, i + 2),
+            index_at(code, i + 4),
+        ),
+        26 => Instr::Try(target_at(code, i)),
+        27 => Instr::Done,
+        28 => Instr::Throw,
+        29 => Instr::Input(index_at(code, i)),
+        _ => Instr::End,
+    }
+}
+
+// The instruction at a place of the code.
+pub fn decode(code: &[u8], pc: usize) -> Decoded
+    requires { ⌜ length (now code) < 2 ^ 16 ⌝ }
+    ensures { λ r. ⌜ r ≡ record { instr = fetch (now (code .entry)) pc; after = after (now (code .entry)) pc } ⌝ }
+{
+    if code.len() <= pc {
+        return Decoded {
+            instr: Instr::End,
+            after: pc,
+        };
+    }
+    let op = code[pc];
+    Decoded {
+        instr: instr_at(code, op, pc + 1),
+        after: pc + size_of(op),
+    }
+}
+
+fn arity_of(takes: usize, leaves: usize) -> Arity
+    ensures { λ r. ⌜ r ≡ record { takes = takes; leaves = leaves } ⌝ }
+{
+    Arity { takes, leaves }
+}
+
+// How many values an instruction takes and leaves.
+pub fn arity(i: Instr) -> Arity
+    ensures { λ r. ⌜ r ≡ arity i ⌝ }
+{
+    match i {
+        Instr::End => arity_of(1, 0),
+        Instr::Push(_) => arity_of(0, 1),
+        Instr::Lab(_) => arity_of(0, 1),
+        Instr::Get(_) => arity_of(0, 1),
+        Instr::Set(_) => arity_of(1, 0),
+        Instr::Pop => arity_of(1, 0),
+        Instr::Add => arity_of(2, 1),
+        Instr::Sub => arity_of(2, 1),
+        Instr::Less => arity_of(2, 1),
+        Instr::Same => arity_of(2, 1),
+        Instr::Jump(_) => arity_of(0, 0),
+        Instr::Ifz(_) => arity_of(1, 0),
+        Instr::Cur => arity_of(0, 1),
+        Instr::Clr => arity_of(0, 1),
+        Instr::Raise => arity_of(1, 0),
+        Instr::Lower => arity_of(1, 0),
+        Instr::Flows => arity_of(2, 1),
+        Instr::Join => arity_of(2, 1),
+        Instr::Meet => arity_of(2, 1),
+        Instr::Seal => arity_of(2, 1),
+        Instr::Open => arity_of(1, 1),
+        Instr::Labof => arity_of(1, 1),
+        Instr::New => arity_of(2, 1),
+        Instr::Read => arity_of(1, 1),
+        Instr::Write => arity_of(2, 0),
+        Instr::Block(_, _, _) => arity_of(1, 1),
+        Instr::Try(_) => arity_of(0, 2),
+        Instr::Done => arity_of(0, 0),
+        Instr::Throw => arity_of(1, 0),
+        Instr::Input(_) => arity_of(0, 1),
+    }
+}

@@ -1,0 +1,68 @@
+-- What each function finds is what its check says of the file: the function is given a header and parts of the file.
+use mathlib.Core.Bool.{Bool}
+use mathlib.Core.List.{List}
+use mathlib.Core.Path.{_≡_, sym, ap, ap₂, _∙_}
+use Prim.Native.Nat.{ℕ, _+_, _-_, _*_}
+use native.Mathlib.Omega.{arith}
+use lib.ListN.{length, take, drop}
+use borrow.Rule.Slice.PartAt.{part-to-end}
+use Rattle.labels.specs.Order.{flows}
+use Rattle.labels.specs.declared.Label.{Label}
+use Rattle.script_file.specs.Sections.{header, labelBytes, recordBytes, codeBytes, readLabels, fileLabels, labelAt, orNone}
+use Rattle.script_file.specs.Sweep.{codeOk}
+use Rattle.script_file.specs.Checks.{sizeOk, countsOk, offsetsOk, recordsOk, passes1, passes2, passes3, passes4, passes5, passes6, passes7}
+use Rattle.script_file.specs.Loading.{labelWords}
+use Rattle.script_file.specs.Parts.{tableOf, labelIn}
+use Rattle.script_file.specs.declared.Header.{Header}
+use Rattle.script_file.specs.declared.Table.{Table}
+use Rattle.script_file.proofs.Labels.{words-hold}
+
+module _ (bs : List ℕ) where
+  pub finds1 : (b : Bool) → sizeOk (length bs) ≡ b → passes1 bs ≡ b
+  unfolding passes1
+  finds1 b e = e
+
+  module _ (h : Header) (is : h ≡ header bs) where
+    pub finds2 : (b : Bool) → countsOk h ≡ b → passes2 bs ≡ b
+    unfolding passes2
+    finds2 b e = ap countsOk (sym is) ∙ e
+
+    pub finds3 : (b : Bool) → offsetsOk h (length bs) ≡ b → passes3 bs ≡ b
+    unfolding passes3
+    finds3 b e = ap (λ (g : Header). offsetsOk g (length bs)) (sym is) ∙ e
+
+    pub file-table : (t : Table) → t ≡ tableOf (readLabels (h .labels .count) (take (h .records .offset - 16) (drop 16 bs))) → t ≡ tableOf (fileLabels bs)
+    unfolding fileLabels labelBytes
+    file-table t e = e ∙ ap (λ (g : Header). tableOf (readLabels (g .labels .count) (take (g .records .offset - 16) (drop 16 bs)))) is
+
+    pub finds6 : (b : Bool) → h .code .offset ≡ h .records .offset + 6 * h .records .count
+        → recordsOk (h .labels .count) (take (h .code .offset - h .records .offset) (drop (h .records .offset) bs)) (h .records .count) 0 ≡ b → passes6 bs ≡ b
+    unfolding passes6 recordBytes
+    finds6 b e r =
+        let count : h .code .offset - h .records .offset ≡ 6 * h .records .count = omega arith in
+        ap (λ (g : Header). recordsOk (g .labels .count) (take (6 * g .records .count) (drop (g .records .offset) bs)) (g .records .count) 0) (sym is)
+        ∙ ap (λ (n : ℕ). recordsOk (h .labels .count) (take n (drop (h .records .offset) bs)) (h .records .count) 0) (sym count)
+        ∙ r
+
+    pub finds7 : (b : Bool) → codeOk (h .labels .count) (h .records .count) (take (length bs - h .code .offset) (drop (h .code .offset) bs)) ≡ b → passes7 bs ≡ b
+    unfolding passes7 codeBytes
+    finds7 b r =
+        ap (λ (g : Header). codeOk (g .labels .count) (g .records .count) (drop (g .code .offset) bs)) (sym is)
+        ∙ ap (codeOk (h .labels .count) (h .records .count)) (sym (part-to-end bs (h .code .offset)))
+        ∙ r
+
+  module _ (t : Table) (is : t ≡ tableOf (fileLabels bs)) where
+    pub finds4 : (b : Bool) → t .whole ≡ b → passes4 bs ≡ b
+    unfolding passes4
+    finds4 b e = sym (ap (λ (u : Table). u .whole) is) ∙ e
+
+    label-in : (i : ℕ) → labelIn (labelWords (orNone (fileLabels bs))) i ≡ labelAt bs i → labelAt bs i ≡ labelIn (t .words) i
+    label-in i e = sym e ∙ ap (λ (u : Table). labelIn (u .words) i) (sym is)
+
+    pub finds5 : (b : Bool) → flows (labelIn (t .words) 0) (labelIn (t .words) 1) ≡ b → passes5 bs ≡ b
+    unfolding passes5 labelAt
+    finds5 b e =
+        ap₂ flows
+        (label-in 0 (words-hold (orNone (fileLabels bs)) 0 (omega arith)))
+        (label-in 1 (words-hold (orNone (fileLabels bs)) 1 (omega arith)))
+        ∙ e

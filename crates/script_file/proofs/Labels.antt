@@ -1,0 +1,117 @@
+-- The label section, one entry at a time, and the words that it fills.
+use mathlib.Core.Bool.{Bool, true, false, cond}
+use mathlib.Core.List.{List, [], _∷_, _++_, append-assoc, append-nil}
+use mathlib.Core.Option.{Option, none, some}
+use mathlib.Core.Path.{_≡_, refl, sym, ap, ap₂, subst, _∙_}
+use Prim.Native.Nat.{ℕ, zero, suc, _+_, _*_, _≤_, _<_}
+use native.Mathlib.Omega.{arith}
+use lib.Dec.{T}
+use lib.ListN.{length, getD, set, drop, length-append}
+use Rattle.labels.specs.Entry.{wellFormed, readEntry, entryLength}
+use Rattle.labels.specs.declared.Label.{Label}
+use Rattle.labels.specs.declared.Entry.{Entry}
+use Rattle.labels.specs.declared.Entry.the-variants.{Read, Malformed}
+use Rattle.labels.proofs.Reading.{well-formed, found}
+use Rattle.script_file.specs.Sections.{consLabel, readLabels, noneLeft, orNone}
+use Rattle.script_file.specs.Checks.{present}
+use Rattle.script_file.specs.Loading.{tables, padded, labelWords}
+use Rattle.script_file.specs.Parts.{tableOf, labelIn}
+use Rattle.script_file.specs.declared.Table.{Table}
+
+-- an entry that is read lies within the bytes
+pub entry-within : (xs : List ℕ) (l : Label) (k : ℕ) → readEntry xs ≡ Read l k → k ≤ length xs
+unfolding readEntry
+entry-within xs l k e = go (wellFormed xs) refl e where
+  go : (b : Bool) → wellFormed xs ≡ b → cond b (found xs) Malformed ≡ Read l k → k ≤ length xs
+  go true w r =
+      let same : entryLength xs ≡ k = cc in
+      let whole = well-formed xs (subst (λ (b : Bool). T b) (sym w) tt) .whole in
+      omega arith
+  go false w r = let z : _≡_ {A = ℕ} 0 1 = cc in absurd (omega arith)
+
+-- ── filling the words ──
+
+abbrev pub putLabel : ℕ → Label → List ℕ → List ℕ
+putLabel i l ws = set (set ws (2 * i) (l .secrecy)) (2 * i + 1) (l .integrity)
+
+abbrev pub putLabels : ℕ → List Label → List ℕ → List ℕ
+putLabels i [] ws = ws
+putLabels i (l ∷ ls) ws = putLabels (i + 1) ls (putLabel i l ws)
+
+-- what the labels that are left make of the words so far
+abbrev pub tableFrom : ℕ → List ℕ → Option (List Label) → Table
+tableFrom i ws none = tableOf none
+tableFrom i ws (some ls) = record { whole = true; words = putLabels i ls ws }
+
+set-padded : (n : ℕ) (xs : List ℕ) (a : ℕ) → set (padded n xs) (length xs) a ≡ padded n (xs ++ a ∷ [])
+set-padded zero xs a = refl
+set-padded (suc n) [] a = refl
+set-padded (suc n) (x ∷ xs) a = ap (λ (r : List ℕ). x ∷ r) (set-padded n xs a)
+
+put-padded : (n : ℕ) (ls : List Label) (i : ℕ) (xs : List ℕ) → length xs ≡ 2 * i → putLabels i ls (padded n xs) ≡ padded n (xs ++ tables ls)
+put-padded n [] i xs e = ap (padded n) (sym (append-nil xs))
+put-padded n (l ∷ ls) i xs e =
+    let s = l .secrecy in
+    let j = l .integrity in
+    let one : length (xs ++ s ∷ []) ≡ 2 * i + 1 = length-append xs (s ∷ []) ∙ ap (λ (k : ℕ). k + 1) e in
+    let two : length ((xs ++ s ∷ []) ++ j ∷ []) ≡ 2 * (i + 1) = length-append (xs ++ s ∷ []) (j ∷ []) ∙ omega arith in
+    let first : set (padded n xs) (2 * i) s ≡ padded n (xs ++ s ∷ []) = ap (λ (k : ℕ). set (padded n xs) k s) (sym e) ∙ set-padded n xs s in
+    let both : putLabel i l (padded n xs) ≡ padded n ((xs ++ s ∷ []) ++ j ∷ []) =
+    ap₂ (λ (ws : List ℕ) (k : ℕ). set ws k j) first (sym one) ∙ set-padded n (xs ++ s ∷ []) j in
+    ap (putLabels (i + 1) ls) both
+    ∙ put-padded n ls (i + 1) ((xs ++ s ∷ []) ++ j ∷ []) two
+    ∙ ap (padded n) (append-assoc (xs ++ s ∷ []) (j ∷ []) (tables ls) ∙ append-assoc xs (s ∷ []) (j ∷ tables ls))
+
+pub table-start : (o : Option (List Label)) → tableOf o ≡ tableFrom 0 (labelWords []) o
+unfolding labelWords
+table-start none = refl
+table-start (some ls) = ap (λ (ws : List ℕ). record { whole = true; words = ws }) (sym (put-padded 64 ls 0 [] refl))
+
+table-cons : (i : ℕ) (ws : List ℕ) (l : Label) (o : Option (List Label)) → tableFrom i ws (consLabel l o) ≡ tableFrom (i + 1) (putLabel i l ws) o
+table-cons i ws l none = refl
+table-cons i ws l (some ls) = refl
+
+module _ (i : ℕ) (ws : List ℕ) (n : ℕ) (bs : List ℕ) where
+  pub entry-read : (l : Label) (k : ℕ) → readEntry bs ≡ Read l k → tableFrom i ws (readLabels (suc n) bs) ≡ tableFrom (i + 1) (putLabel i l ws) (readLabels n (drop k bs))
+  unfolding readLabels
+  entry-read l k e = rw e (table-cons i ws l (readLabels n (drop k bs)))
+
+  pub entry-malformed : readEntry bs ≡ Malformed → tableFrom i ws (readLabels (suc n) bs) ≡ tableOf none
+  unfolding readLabels
+  entry-malformed e = rw e
+
+pub labels-end : (i : ℕ) (ws bs : List ℕ) → bs ≡ [] → tableFrom i ws (readLabels 0 bs) ≡ record { whole = true; words = ws }
+unfolding readLabels
+labels-end i ws bs e = rw e
+
+pub bytes-left : (i : ℕ) (ws bs : List ℕ) → 0 < length bs → tableFrom i ws (readLabels 0 bs) ≡ tableOf none
+unfolding readLabels
+bytes-left i ws [] h = absurd (omega arith)
+bytes-left i ws (b ∷ bs) h = refl
+
+-- ── reading the words ──
+
+abbrev pub noLabel : Label
+noLabel = record { secrecy = 0; integrity = 0 }
+
+tables-at : (ls : List Label) (i : ℕ) → labelIn (tables ls) i ≡ getD ls i noLabel
+tables-at [] i = refl
+tables-at (l ∷ ls) zero = refl
+tables-at (l ∷ ls) (suc i) =
+    let e : 2 * suc i ≡ suc (suc (2 * i)) = omega arith in
+    let f : 2 * suc i + 1 ≡ suc (suc (2 * i + 1)) = omega arith in
+    ap₂ (λ (a b : ℕ). record { secrecy = getD (tables (l ∷ ls)) a 0; integrity = getD (tables (l ∷ ls)) b 0 }) e f ∙ tables-at ls i
+
+padded-at : (n : ℕ) (xs : List ℕ) (k : ℕ) → k < n → getD (padded n xs) k 0 ≡ getD xs k 0
+padded-at zero xs k h = absurd (omega arith)
+padded-at (suc n) [] zero h = refl
+padded-at (suc n) [] (suc k) h = padded-at n [] k (omega arith)
+padded-at (suc n) (x ∷ xs) zero h = refl
+padded-at (suc n) (x ∷ xs) (suc k) h = padded-at n xs k (omega arith)
+
+-- label i of a file stands at words 2 i and 2 i + 1
+pub words-hold : (ls : List Label) (i : ℕ) → i < 32 → labelIn (labelWords ls) i ≡ getD ls i noLabel
+unfolding labelWords
+words-hold ls i h =
+    ap₂ (λ (a b : ℕ). record { secrecy = a; integrity = b }) (padded-at 64 (tables ls) (2 * i) (omega arith)) (padded-at 64 (tables ls) (2 * i + 1) (omega arith))
+    ∙ tables-at ls i

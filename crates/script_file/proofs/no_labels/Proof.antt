@@ -1,0 +1,12 @@
+-- `script_file::no_labels` meets its contract.
+use mathlib.Core.Path.{refl}
+use Rattle.script_file.specs.Loading.{labelWords}
+use Rattle.script_file.proofs.no_labels.Statement.{statement}
+use Rattle.script_file.proofs.no_labels.Tie as tie
+
+returns : tie.Need-returns
+unfolding labelWords
+returns c = refl
+
+pub no-labels-spec : {M : Type 1} → statement M
+no-labels-spec = tie.close (tie.spec returns)

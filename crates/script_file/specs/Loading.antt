@@ -1,0 +1,59 @@
+-- What loading a file gives: the answer, and the words of the labels.
+use mathlib.Core.Bool.{cond}
+use mathlib.Core.List.{List, [], _∷_}
+use Prim.Native.Nat.{ℕ, zero, suc}
+use lib.Dec.{eqb}
+use lib.ListN.{getD}
+use Rattle.labels.specs.declared.Label.{Label}
+use Rattle.script_file.specs.Sections.{header, fileLabels, orNone}
+use Rattle.script_file.specs.Checks.{refusal}
+use Rattle.script_file.specs.declared.Header.{Header}
+use Rattle.script_file.specs.declared.Refusal.{Refusal}
+use Rattle.script_file.specs.declared.Refusal.the-variants.{Size, Counts, Offsets, Labels, Start, Records, Code}
+use Rattle.script_file.specs.declared.Loaded.{Loaded}
+use Rattle.script_file.specs.declared.Loaded.the-variants.{Refused, File}
+
+-- the number of each refusal
+unfoldable pub number : Refusal → ℕ
+number Size = 1
+number Counts = 2
+number Offsets = 3
+number Labels = 4
+number Start = 5
+number Records = 6
+number Code = 7
+
+-- the number of an answer, 0 where nothing stops the file
+unfoldable pub numberOf : Loaded → ℕ
+numberOf (Refused r) = number r
+numberOf (File h) = 0
+
+-- the refusals in the order of their numbers, from 1
+abbrev pub refusals : List Refusal
+refusals = Size ∷ Counts ∷ Offsets ∷ Labels ∷ Start ∷ Records ∷ Code ∷ []
+
+-- the answer with a number
+abbrev pub answer : ℕ → Header → Loaded
+answer zero h = File h
+answer (suc n) h = Refused (getD refusals n Code)
+
+unfoldable pub loaded : List ℕ → Loaded
+loaded bs = answer (refusal bs) (header bs)
+
+-- labels as words: label i at words 2 i and 2 i + 1
+abbrev pub tables : List Label → List ℕ
+tables [] = []
+tables (l ∷ ls) = l .secrecy ∷ (l .integrity ∷ tables ls)
+
+-- n words of a list: 0 behind its end
+abbrev pub padded : ℕ → List ℕ → List ℕ
+padded zero xs = []
+padded (suc n) [] = 0 ∷ padded n []
+padded (suc n) (x ∷ xs) = x ∷ padded n xs
+
+unfoldable pub labelWords : List Label → List ℕ
+labelWords ls = padded 64 (tables ls)
+
+-- what stands in the lent words afterwards: the labels of a file that loads, else what stood there
+unfoldable pub wordsAfter : List ℕ → List ℕ → List ℕ
+wordsAfter bs ws = cond (eqb (refusal bs) 0) (labelWords (orNone (fileLabels bs))) ws
