@@ -34,18 +34,12 @@ impl Label {
 
     #[inline]
     pub fn join(self, other: Label) -> Label {
-        Label {
-            secrecy: self.secrecy & other.secrecy,
-            integrity: self.integrity | other.integrity,
-        }
+        Label { secrecy: self.secrecy & other.secrecy, integrity: self.integrity | other.integrity }
     }
 
     #[inline]
     pub fn meet(self, other: Label) -> Label {
-        Label {
-            secrecy: self.secrecy | other.secrecy,
-            integrity: self.integrity & other.integrity,
-        }
+        Label { secrecy: self.secrecy | other.secrecy, integrity: self.integrity & other.integrity }
     }
 }
 

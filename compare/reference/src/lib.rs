@@ -31,12 +31,7 @@ pub fn read(file: &[u8], reader: usize, buffer: &mut [u8]) -> Result<usize, u8> 
 }
 
 /// [`read`] by other rules than the paper's.
-pub fn read_by<R: Rules>(
-    rules: &R,
-    file: &[u8],
-    reader: usize,
-    buffer: &mut [u8],
-) -> Result<usize, Refusal> {
+pub fn read_by<R: Rules>(rules: &R, file: &[u8], reader: usize, buffer: &mut [u8]) -> Result<usize, Refusal> {
     let file = File::parse(file)?;
     let &reader = file.labels().get(reader).ok_or(Refusal::Reader)?;
     let finished = machine::run(&file, rules);
