@@ -1,0 +1,43 @@
+//! Files to try an implementation with, each fixed by its seed.
+//!
+//! Flat random bytes are refused almost always, and flat random code faults at
+//! once. So scripts are put together from statements that mostly work, around
+//! what can go wrong: opening hidden records inside blocks, branching on them,
+//! and then doing something that others might notice.
+
+pub mod alike;
+pub mod coverage;
+pub mod invalid;
+pub mod parts;
+mod probes;
+pub mod random;
+mod statements;
+mod strays;
+mod writer;
+
+use random::Random;
+use reference::script::Script;
+
+/// The valid file of a seed.
+pub fn valid(seed: u64) -> Vec<u8> {
+    script(&mut Random::new(seed)).bytes()
+}
+
+/// The file of a seed: one in eight is to be refused.
+pub fn any(seed: u64) -> Vec<u8> {
+    let mut random = Random::new(seed);
+    if random.chance(12) {
+        let refusal = random.within(1, 7) as u8;
+        invalid::file(&mut random, refusal)
+    } else {
+        script(&mut random).bytes()
+    }
+}
+
+pub fn script(random: &mut Random) -> Script {
+    let labels = parts::labels(random);
+    let records = parts::records(random, labels.len());
+    let (steps, places) = parts::allotment(random, records.len());
+    let code = writer::code(random, &labels, &records, steps);
+    Script { labels, records, code, steps, places }
+}
