@@ -7,6 +7,7 @@
 
 pub mod alike;
 pub mod coverage;
+pub mod exhaust;
 pub mod invalid;
 pub mod parts;
 mod probes;
