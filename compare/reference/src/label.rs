@@ -5,16 +5,6 @@ use crate::limits::{HIGHEST_MASK, MAX_CLAUSES, PRINCIPALS};
 /// The formula that holds for every set of principals.
 pub const TRUE: u64 = u64::MAX;
 
-/// For each principal, the table of the sets that it is a member of.
-const MEMBER: [u64; PRINCIPALS] = [
-    0xAAAA_AAAA_AAAA_AAAA,
-    0xCCCC_CCCC_CCCC_CCCC,
-    0xF0F0_F0F0_F0F0_F0F0,
-    0xFF00_FF00_FF00_FF00,
-    0xFFFF_0000_FFFF_0000,
-    0xFFFF_FFFF_0000_0000,
-];
-
 /// A secrecy and an integrity formula, each as a table: bit i tells whether the
 /// formula holds for the set of principals whose mask is i.
 #[derive(Clone, Copy, Debug, PartialEq, Eq)]
@@ -48,9 +38,30 @@ pub fn implies(premise: u64, conclusion: u64) -> bool {
     premise & !conclusion == 0
 }
 
-/// The table of one clause: it holds for the sets that share a member with it.
+/// The tables of all clauses: each holds for the sets that share a member with
+/// its mask.
+const CLAUSES: [u64; MASKS] = tables(true);
+
+/// For each mask, the table of the masks that it is a subset of.
+const SUPERSETS: [u64; MASKS] = tables(false);
+
+const MASKS: usize = 1 << PRINCIPALS;
+
+const fn tables(sharing: bool) -> [u64; MASKS] {
+    let mut tables = [0; MASKS];
+    let mut pair = 0;
+    while pair < MASKS * MASKS {
+        let (mask, set) = (pair / MASKS, pair % MASKS);
+        let holds = if sharing { mask & set != 0 } else { mask & set == mask };
+        tables[mask] |= (holds as u64) << set;
+        pair += 1;
+    }
+    tables
+}
+
+/// The table of one clause, whose mask is below 64.
 pub fn clause(mask: u8) -> u64 {
-    members(mask).fold(0, |table, member| table | member)
+    CLAUSES[mask as usize]
 }
 
 /// The table of the AND of `masks`, or `None` if the list is malformed.
@@ -68,12 +79,8 @@ pub fn formula(masks: &[u8]) -> Option<u64> {
             return None;
         }
         table &= clause(mask);
-        covered |= members(mask).fold(TRUE, |sets, member| sets & member);
+        covered |= SUPERSETS[mask as usize];
         least = mask + 1;
     }
     Some(table)
-}
-
-fn members(mask: u8) -> impl Iterator<Item = u64> {
-    MEMBER.into_iter().enumerate().filter_map(move |(p, member)| (mask >> p & 1 == 1).then_some(member))
 }

@@ -41,10 +41,11 @@ struct Machine<'a, R> {
     rules: &'a R,
 }
 
-/// Where a run goes after an instruction.
+/// Whether a run goes on after an instruction.
 enum Next {
-    At(usize),
-    End(Value),
+    On,
+    /// With the result on top of the stack.
+    End,
 }
 
 impl<R: Rules> Machine<'_, R> {
@@ -55,9 +56,8 @@ impl<R: Rules> Machine<'_, R> {
             match self.obey(run, opcode) {
                 Ok(next) => {
                     self.rules.obeyed(run, opcode, None);
-                    match next {
-                        Next::At(at) => run.at = at,
-                        Next::End(result) => return Ending::Result(result),
+                    if let Next::End = next {
+                        return Ending::Result(run.stack.operand(0));
                     }
                 }
                 Err(fault) => {
@@ -73,14 +73,16 @@ impl<R: Rules> Machine<'_, R> {
     }
 
     /// One instruction. Until it is sure not to fault it changes nothing, save
-    /// the raise of an OPEN that throws a sealed fault.
+    /// the raise of an OPEN that throws a sealed fault, and where the run is in
+    /// the code: after a fault that is the handler's start, or does not matter.
     #[inline]
     fn obey(&mut self, run: &mut Run, opcode: u8) -> Result<Next, Fault> {
         let shape = &SHAPES[opcode as usize];
         run.stack.admits(shape)?;
         let operand = run.at + 1;
+        run.at += shape.length;
         match opcode {
-            END => return Ok(Next::End(run.stack.operand(0))),
+            END => return Ok(Next::End),
             PUSH => run.stack.push(Value::Number(self.word(operand))),
             LAB => run.stack.push(Value::Label(self.labels[self.byte(operand)])),
             GET => run.stack.push(run.locals[self.byte(operand)]),
@@ -90,12 +92,12 @@ impl<R: Rules> Machine<'_, R> {
             }
             POP => run.stack.drop(1),
             ADD..=SAME => arithmetic(run, opcode)?,
-            JUMP => return Ok(Next::At(self.short(operand).into())),
+            JUMP => run.at = self.short(operand).into(),
             IFZ => {
                 let zero = run.stack.number(0)? == 0;
                 run.stack.drop(1);
                 if zero {
-                    return Ok(Next::At(self.short(operand).into()));
+                    run.at = self.short(operand).into();
                 }
             }
             CUR => run.stack.push(Value::Label(run.label)),
@@ -124,7 +126,7 @@ impl<R: Rules> Machine<'_, R> {
             }
             _ => unreachable!("check 7 knows every opcode"),
         }
-        Ok(Next::At(run.at + shape.length))
+        Ok(Next::On)
     }
 
     fn move_bounds(&mut self, run: &mut Run, opcode: u8) -> Result<(), Fault> {
@@ -268,12 +270,17 @@ impl<R: Rules> Machine<'_, R> {
 
     #[inline]
     fn short(&self, at: usize) -> u16 {
-        u16::from_le_bytes([self.code[at], self.code[at + 1]])
+        u16::from_le_bytes(self.bytes(at))
     }
 
     #[inline]
     fn word(&self, at: usize) -> u32 {
-        u32::from(self.short(at)) | u32::from(self.short(at + 2)) << 16
+        u32::from_le_bytes(self.bytes(at))
+    }
+
+    #[inline]
+    fn bytes<const N: usize>(&self, at: usize) -> [u8; N] {
+        *self.code[at..].first_chunk().expect("no instruction is cut")
     }
 }
 
