@@ -174,7 +174,8 @@ fn costs() -> Vec<Case> {
 fn nest(code: &mut Code, depth: u16, innermost: impl FnOnce(&mut Code)) {
     let bodies: Vec<Target> = (0..depth).map(|_| code.target()).collect();
     for (level, &body) in (0..).zip(&bodies) {
-        code.lab(label::PUBLIC).block(body, 4 * (depth - level), (depth - level) as u8).ops(&[OPEN, END]);
+        let rest = depth - level;
+        code.lab(label::PUBLIC).block(body, 4 * rest + 1, rest as u8).ops(&[OPEN, END]);
         code.place(body);
     }
     innermost(code);
@@ -191,6 +192,15 @@ fn nested() -> Vec<Case> {
     cases.extend((9..=11).map(|depth| {
         case(format!("{depth} nested blocks"), Expected::fault(28), |code| {
             nest(code, depth, |code| _ = code.push(5).end());
+        })
+    }));
+    cases.extend((1..=8).map(|depth| {
+        case(format!("a fault caught inside {depth} blocks"), Expected::number(30), |code| {
+            nest(code, depth, |code| {
+                let handler = code.target();
+                code.push(8).try_to(handler).op(THROW);
+                code.place(handler).ops(&[POP, END]);
+            });
         })
     }));
     cases.push(case("eight blocks one behind the other", Expected::number(8), |code| {

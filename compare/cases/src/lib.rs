@@ -7,6 +7,7 @@ pub mod faults;
 pub mod order;
 pub mod paper;
 pub mod refusals;
+pub mod values;
 
 use reference::script::{Clauses, Code, Input, Script};
 use reference::value::{Ending, Fault, Value};
@@ -40,6 +41,7 @@ pub fn all() -> Vec<Case> {
     [
         paper::cases(),
         refusals::cases(),
+        values::cases(),
         faults::cases(),
         order::cases(),
         catching::cases(),
