@@ -1,12 +1,12 @@
 //! Blocks: what they cost, what their outcome holds, what stays behind.
 
-use crate::{case, label, record, tuned, Case, Expected, FREE_PLACES};
+use crate::{case, label, record, Case, Expected, FREE_PLACES};
 use reference::opcode::*;
 use reference::script::{Code, Target};
 use reference::value::{Ending, Fault, Value};
 
 pub fn cases() -> Vec<Case> {
-    [outcomes(), sealed_faults(), costs(), nested(), left_behind()].concat()
+    [outcomes(), isolation(), sealed_faults(), costs(), places(), nested(), left_behind()].concat()
 }
 
 /// A block whose outcome the outer run opens at once.
@@ -42,6 +42,12 @@ fn outcomes() -> Vec<Case> {
             sealed_player(code);
             code.end();
         }),
+    ]
+}
+
+/// What passes between the outer run and the body, and what does not.
+fn isolation() -> Vec<Case> {
+    vec![
         case("the outcome bears the bound", Expected::number(1), |code| {
             let body = code.target();
             // The bound is above the final label; only the bound flows to it back.
@@ -146,6 +152,11 @@ fn costs() -> Vec<Case> {
             code.lab(label::PUBLIC).block(body, 9, FREE_PLACES - 1).op(POP).push(1).ops(&[CUR, SEAL, END]);
             code.place(body).push(5).end();
         }),
+    ]
+}
+
+fn places() -> Vec<Case> {
+    vec![
         case("the body's places are its own", Expected::fault(26), |code| {
             let body = code.target();
             code.lab(label::PUBLIC).block(body, 20, 1).ops(&[OPEN, END]);
@@ -162,6 +173,11 @@ fn costs() -> Vec<Case> {
                 code.place(body).push(5).ops(&[CUR, SEAL, END]);
             },
         ),
+        case("a handle passed through a block and two records", Expected::number(7), |code| {
+            let body = code.target();
+            code.lab(label::PUBLIC).block(body, 20, 2).ops(&[OPEN, OPEN, READ, OPEN, END]);
+            code.place(body).input(record::SEALED_PLAYER).ops(&[CUR, NEW, CUR, SEAL, END]);
+        }),
         case("places go on behind the body's", Expected::Ends(Ending::Result(Value::Sealed(12))), |code| {
             let body = code.target();
             code.lab(label::PUBLIC).block(body, 20, 4).op(POP).push(5).ops(&[CUR, SEAL, END]);
@@ -245,15 +261,5 @@ fn left_behind() -> Vec<Case> {
             code.end();
         }));
     }
-    cases.push(tuned(
-        "a handle passed through a block and two records",
-        Expected::number(7),
-        |code| {
-            let body = code.target();
-            code.lab(label::PUBLIC).block(body, 20, 2).ops(&[OPEN, OPEN, READ, OPEN, END]);
-            code.place(body).input(record::SEALED_PLAYER).ops(&[CUR, NEW, CUR, SEAL, END]);
-        },
-        |_| (),
-    ));
     cases
 }

@@ -6,7 +6,7 @@ use reference::script::{Code, Target};
 use reference::value::{Ending, Fault};
 
 pub fn cases() -> Vec<Case> {
-    [stack(), frames(), labels(), last_steps()].concat()
+    [stack(), frames(), labels(), raises(), last_steps()].concat()
 }
 
 /// Runs `write` under a handler that `handle` writes.
@@ -110,6 +110,12 @@ fn labels() -> Vec<Case> {
             |code| _ = code.lab(label::PLAYER).ops(&[LOWER, THROW]),
             |code| same_label(code, label::PLAYER, CLR),
         ),
+    ]
+}
+
+/// Of all faulting instructions, only an OPEN that throws a sealed fault raises.
+fn raises() -> Vec<Case> {
+    vec![
         tried(
             "OPEN that gives 24 does not raise",
             1,

@@ -6,7 +6,17 @@ use reference::script::Code;
 use reference::value::{Ending, Fault};
 
 pub fn cases() -> Vec<Case> {
-    [too_few_operands(), stack_full(), wrong_kind(), frames(), labels(), resources(), thrown()].concat()
+    [
+        too_few_operands(),
+        stack_full(),
+        wrong_kind(),
+        frames(),
+        made_records(),
+        labels(),
+        resources(),
+        thrown(),
+    ]
+    .concat()
 }
 
 fn faults(code: u8, opcode: u8, detail: &str, write: impl FnOnce(&mut Code)) -> Case {
@@ -153,8 +163,8 @@ fn frames() -> Vec<Case> {
     ]
 }
 
-/// Faults 23, 24 and 25.
-fn labels() -> Vec<Case> {
+/// Faults 23 and 24 of the instructions that make a record.
+fn made_records() -> Vec<Case> {
     let raise = |code: &mut Code| _ = code.lab(label::PLAYER).op(RAISE);
     let mut cases = Vec::new();
     for opcode in [SEAL, NEW] {
@@ -169,7 +179,13 @@ fn labels() -> Vec<Case> {
             code.push(1).lab(label::ABOVE).op(opcode);
         }));
     }
-    cases.extend([
+    cases
+}
+
+/// Faults 23, 24 and 25 of all others.
+fn labels() -> Vec<Case> {
+    let raise = |code: &mut Code| _ = code.lab(label::PLAYER).op(RAISE);
+    vec![
         faults(23, WRITE, "to a lower secrecy", |code| {
             raise(code);
             code.push(1).input(record::REFERENCE_PUBLIC).op(WRITE);
@@ -196,8 +212,7 @@ fn labels() -> Vec<Case> {
         faults(25, LOWER, "above the old clearance", |code| {
             code.lab(label::DEALER).op(LOWER).lab(label::PLAYER).op(LOWER);
         }),
-    ]);
-    cases
+    ]
 }
 
 /// Faults 26 and 27; for 28 see the nested blocks.

@@ -86,61 +86,69 @@ impl<R: Rules> Machine<'_, R> {
             PUSH => run.stack.push(Value::Number(self.word(operand))),
             LAB => run.stack.push(Value::Label(self.labels[self.byte(operand)])),
             GET => run.stack.push(run.locals[self.byte(operand)]),
-            SET => {
-                run.locals[self.byte(operand)] = run.stack.operand(0);
-                run.stack.drop(1);
-            }
+            SET => run.locals[self.byte(operand)] = run.stack.pop(),
             POP => run.stack.drop(1),
             ADD..=SAME => arithmetic(run, opcode)?,
             JUMP => run.at = self.short(operand).into(),
-            IFZ => {
-                let zero = run.stack.number(0)? == 0;
-                run.stack.drop(1);
-                if zero {
-                    run.at = self.short(operand).into();
-                }
-            }
+            IFZ => self.branch(run, operand)?,
             CUR => run.stack.push(Value::Label(run.label)),
             CLR => run.stack.push(Value::Label(run.clearance)),
-            RAISE | LOWER => self.move_bounds(run, opcode)?,
+            RAISE => self.raise(run)?,
+            LOWER => self.lower(run)?,
             FLOWS..=MEET => self.compare_labels(run, opcode)?,
             SEAL => self.make(run, opcode, Kind::Sealed)?,
             NEW => self.make(run, opcode, Kind::Reference)?,
             OPEN => self.open(run)?,
             READ => self.read(run)?,
             WRITE => self.write(run)?,
-            LABOF => {
-                let label = self.store.get(run.stack.handle()?).label;
-                run.stack.replace(1, Value::Label(label));
-            }
+            LABOF => self.label_of(run)?,
             BLOCK => self.block(run, operand)?,
             TRY => {
-                let height = run.stack.height() as u8;
-                run.frames.push(Frame { handler: self.short(operand), height })?;
+                run.frames.push(Frame { handler: self.short(operand), height: run.stack.height() as u8 })?
             }
             DONE => drop(run.frames.pop().ok_or(Fault::FRAMES)?),
             THROW => return Err(Fault::thrown(run.stack.number(0)?)),
-            INPUT => {
-                let place = self.code[operand];
-                run.stack.push(Value::handle(self.store.get(place).kind, place));
-            }
+            INPUT => self.input(run, operand),
             _ => unreachable!("check 7 knows every opcode"),
         }
         Ok(Next::On)
     }
 
-    fn move_bounds(&mut self, run: &mut Run, opcode: u8) -> Result<(), Fault> {
-        let operand = run.stack.label(0)?;
-        if opcode == LOWER {
-            if !self.rules.may_lower(run.label, operand, run.clearance) {
-                return Err(Fault::BAD_LOWER);
-            }
-            run.clearance = operand;
-        } else {
-            let raised = self.rules.join(run.label, operand);
-            self.check_clearance(run, opcode, raised)?;
-            run.label = self.rules.raised(Raiser::Raise, run.label, operand, raised);
+    fn branch(&self, run: &mut Run, operand: usize) -> Result<(), Fault> {
+        let zero = run.stack.number(0)? == 0;
+        run.stack.drop(1);
+        if zero {
+            run.at = self.short(operand).into();
         }
+        Ok(())
+    }
+
+    fn input(&self, run: &mut Run, operand: usize) {
+        let place = self.code[operand];
+        run.stack.push(Value::handle(self.store.get(place).kind, place));
+    }
+
+    fn label_of(&self, run: &mut Run) -> Result<(), Fault> {
+        let label = self.store.get(run.stack.handle()?).label;
+        run.stack.replace(1, Value::Label(label));
+        Ok(())
+    }
+
+    fn raise(&self, run: &mut Run) -> Result<(), Fault> {
+        let by = run.stack.label(0)?;
+        let raised = self.rules.join(run.label, by);
+        self.check_clearance(run, RAISE, raised)?;
+        run.label = self.rules.raised(Raiser::Raise, run.label, by, raised);
+        run.stack.drop(1);
+        Ok(())
+    }
+
+    fn lower(&self, run: &mut Run) -> Result<(), Fault> {
+        let new = run.stack.label(0)?;
+        if !self.rules.may_lower(run.label, new, run.clearance) {
+            return Err(Fault::BAD_LOWER);
+        }
+        run.clearance = new;
         run.stack.drop(1);
         Ok(())
     }

@@ -120,6 +120,12 @@ impl Stack {
     }
 
     #[inline]
+    pub fn pop(&mut self) -> Value {
+        self.drop(1);
+        self.values[self.height]
+    }
+
+    #[inline]
     pub fn drop(&mut self, count: usize) {
         self.height -= count;
     }
