@@ -1,6 +1,6 @@
 //! Blocks: what they cost, what their outcome holds, what stays behind.
 
-use crate::{case, label, record, Case, Expected, FREE_PLACES};
+use crate::{case, label, record, Case, Expected, Write, FREE_PLACES};
 use reference::opcode::*;
 use reference::script::{Code, Target};
 use reference::value::{Ending, Fault, Value};
@@ -91,7 +91,7 @@ fn isolation() -> Vec<Case> {
 
 /// OPEN throws each fault there is out of an outcome.
 fn sealed_faults() -> Vec<Case> {
-    let bodies: [(u8, fn(&mut Code)); 8] = [
+    let bodies: [(u8, Write); 8] = [
         (20, |code| _ = code.op(POP)),
         (21, |code| {
             let again = code.here();
@@ -233,7 +233,7 @@ fn nested() -> Vec<Case> {
 
 /// What a body wrote and made stays, however it ended.
 fn left_behind() -> Vec<Case> {
-    let endings: [(&str, fn(&mut Code)); 4] = [
+    let endings: [(&str, Write); 4] = [
         ("result", |code| _ = code.push(1).end()),
         ("fault", |code| _ = code.op(POP)),
         ("spent", |code| {

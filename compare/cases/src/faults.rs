@@ -1,6 +1,6 @@
 //! Every instruction with every fault that it can throw of itself.
 
-use crate::{case, label, record, tuned, Case, Expected};
+use crate::{case, label, record, tuned, Case, Expected, Write};
 use reference::opcode::*;
 use reference::script::Code;
 use reference::value::{Ending, Fault};
@@ -80,7 +80,7 @@ fn stack_full() -> Vec<Case> {
 }
 
 /// Pushes a value of each kind there is.
-const KINDS: [(&str, fn(&mut Code)); 4] = [
+const KINDS: [(&str, Write); 4] = [
     ("a number", |code| bare(code, PUSH)),
     ("a label", |code| bare(code, LAB)),
     ("a sealed handle", |code| bare(code, INPUT)),

@@ -36,6 +36,9 @@ impl Expected {
     }
 }
 
+/// Writes some instructions.
+type Write = fn(&mut Code);
+
 /// Every case there is.
 pub fn all() -> Vec<Case> {
     [

@@ -1,7 +1,7 @@
 //! Pairs for demand 3: files that differ only in numbers hidden from a reader.
 
-use crate::parts;
 use crate::random::Random;
+use crate::{invalid, parts};
 use reference::file::File;
 use reference::limits::{header, input};
 
@@ -50,8 +50,7 @@ pub fn other(random: &mut Random, file: &[u8], reader: usize) -> Option<Vec<u8>>
     Some(other)
 }
 
-/// A seed's valid file and, for a reader that something is hidden from, one
-/// that is alike.
+/// A file and, for a reader that something is hidden from, one that is alike.
 #[derive(Clone, Debug)]
 pub struct Pair {
     pub file: Vec<u8>,
@@ -63,9 +62,8 @@ pub struct Pair {
 pub fn pair(seed: u64) -> Pair {
     let mut random = Random::new(seed);
     loop {
-        let script = crate::script(&mut random);
-        let file = script.bytes();
-        let readers = script.labels.len();
+        let file = file(&mut random);
+        let readers = usize::from(file[header::LABEL_COUNT]);
         let first = random.below(readers);
         for shift in 0..readers {
             let reader = (first + shift) % readers;
@@ -74,4 +72,14 @@ pub fn pair(seed: u64) -> Pair {
             }
         }
     }
+}
+
+/// Mostly a valid file. Numbers are hidden in files that refusals 5 and 7 stop
+/// too, and there it is the refusal that must not tell.
+fn file(random: &mut Random) -> Vec<u8> {
+    if random.chance(3) {
+        let refusal = random.pick(&[5, 7]);
+        return invalid::file(random, refusal);
+    }
+    crate::script(random).bytes()
 }

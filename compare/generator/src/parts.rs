@@ -82,7 +82,7 @@ pub fn number(random: &mut Random) -> u32 {
         4..=6 => 1,
         7 => random.below(6) as u32,
         8 => u32::MAX - random.below(3) as u32,
-        _ => random.next() as u32,
+        _ => random.word() as u32,
     }
 }
 

@@ -26,7 +26,7 @@ impl Writer<'_> {
         let opcode = self.random.below(OPCODES) as u8;
         let after = self.code.target();
         let byte = self.random.below(16) as u8;
-        let number = self.random.next() as u32;
+        let number = self.random.word() as u32;
         match opcode {
             PUSH => self.code.push(number),
             LAB => {

@@ -52,13 +52,16 @@ pub enum Manner {
 }
 
 pub fn code(random: &mut Random, labels: &[Clauses], records: &[Input], steps: u16) -> Vec<u8> {
-    let statements = random.within(4, 30);
+    let statements = random.within(8, 50);
     let mut writer =
         Writer { random, code: Code::new(), labels: labels.len(), records, bodies: Vec::new(), statements };
     writer.fill_locals();
     let scope = Scope { steps, depth: 0 };
     let before = writer.random.below(4);
     writer.statements(scope, before);
+    if writer.random.chance(40) {
+        writer.probe(scope);
+    }
     let manner = writer.any_manner();
     writer.start(scope, manner);
     let after = writer.random.within(1, 6);
@@ -99,7 +102,7 @@ impl Writer<'_> {
     fn body(&mut self, body: Body) {
         self.code.place(body.target);
         self.start(body.scope, body.manner);
-        let length = if matches!(body.manner, Manner::Telling(_)) { 0 } else { self.random.within(0, 4) };
+        let length = if matches!(body.manner, Manner::Telling(_)) { 0 } else { self.random.within(1, 5) };
         self.statements(body.scope, length);
         self.finish(body.scope);
     }
@@ -205,9 +208,14 @@ impl Writer<'_> {
     pub fn push_target(&mut self) {
         match self.random.below(10) {
             0..=3 => _ = self.code.op(CUR),
-            4..=6 => {
+            4 => {
                 let label = self.any_label();
                 self.code.lab(label).ops(&[CUR, JOIN]);
+            }
+            5..=7 => {
+                // Between the current label and the clearance.
+                let label = self.any_label();
+                self.code.lab(label).ops(&[CUR, JOIN, CLR, MEET]);
             }
             _ => self.push_label(),
         }

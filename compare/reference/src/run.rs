@@ -37,6 +37,7 @@ impl Run {
 
     /// The run of a block's body: `steps` of its own, and the `places` behind
     /// the one that this run's next record, the outcome, will take.
+    #[inline]
     pub fn body(&self, target: usize, steps: u16, places: usize) -> Run {
         let first = self.places.next + 1;
         Run {
