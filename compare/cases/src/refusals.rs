@@ -20,6 +20,10 @@ fn plain_file() -> Vec<u8> {
     script(&code).bytes()
 }
 
+fn records_at(file: &[u8]) -> usize {
+    u16::from_le_bytes([file[header::RECORDS_AT], file[header::RECORDS_AT + 1]]).into()
+}
+
 /// The plain file with some 16-bit numbers overwritten.
 fn patched(name: &str, refusal: u8, patches: &[(usize, u16)]) -> Case {
     let mut file = plain_file();
@@ -94,10 +98,10 @@ fn labels() -> Vec<Case> {
     // Changes the label count alone, so that too many or too few entries are read.
     let miscounted = |name: &str, count| patched(name, 4, &[(header::LABEL_COUNT, count)]);
     let mut long_count = plain_file();
-    long_count[16] = 255;
+    long_count[header::LENGTH] = 255;
     let mut cut_count = plain_file();
-    let records_at = u16::from_le_bytes([cut_count[6], cut_count[7]]) as usize;
-    cut_count[records_at - 2] = 2;
+    let last_count = records_at(&cut_count) - 2;
+    cut_count[last_count] = 2;
     let case = |name: &str, file| Case { name: name.into(), file, expected: Expected::Refused(4) };
     vec![
         miscounted("one entry more than there is", 7),
@@ -113,8 +117,8 @@ fn labels() -> Vec<Case> {
 fn records() -> Vec<Case> {
     let record = |name: &str, refusal, at: usize, byte: u8| {
         let mut file = plain_file();
-        let records_at = u16::from_le_bytes([file[6], file[7]]) as usize;
-        file[records_at + at] = byte;
+        let at = records_at(&file) + at;
+        file[at] = byte;
         Case { name: name.into(), file, expected: Expected::Refused(refusal) }
     };
     let last = 6 * input::LENGTH;

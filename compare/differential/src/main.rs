@@ -9,6 +9,7 @@ use generator::alike::{self, Pair};
 use generator::exhaust;
 use generator::random::Random;
 use mutants::by_hand;
+use reference::limits::header;
 use std::process::ExitCode;
 use trial::IMPLEMENTATIONS;
 
@@ -94,7 +95,7 @@ fn generated_pairs(comparison: &mut Comparison, bounds: &Bounds) {
             // The allotment is not hidden, so both files get the one of the first.
             for file in exhaust::variants(&pair.file) {
                 let mut other = pair.other.clone();
-                other[..16].copy_from_slice(&file[..16]);
+                other[..header::LENGTH].copy_from_slice(&file[..header::LENGTH]);
                 comparison.pair(&format!("{name}, exhausted"), &Pair { file, other, reader: pair.reader });
             }
         }

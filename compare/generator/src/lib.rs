@@ -24,14 +24,24 @@ pub fn valid(seed: u64) -> Vec<u8> {
     script(&mut Random::new(seed)).bytes()
 }
 
-/// The file of a seed: one in eight is to be refused.
+/// The file of a seed: mostly valid, at times to be refused, and at times with
+/// a few bytes changed, so that either may be.
 pub fn any(seed: u64) -> Vec<u8> {
     let mut random = Random::new(seed);
-    if random.chance(12) {
-        let refusal = random.within(1, 7) as u8;
-        invalid::file(&mut random, refusal)
-    } else {
-        script(&mut random).bytes()
+    match random.below(100) {
+        0..=11 => {
+            let refusal = random.within(1, 7) as u8;
+            invalid::file(&mut random, refusal)
+        }
+        12..=17 => {
+            let mut file = script(&mut random).bytes();
+            for _ in 0..random.within(1, 3) {
+                let at = random.below(file.len());
+                file[at] = random.word() as u8;
+            }
+            file
+        }
+        _ => script(&mut random).bytes(),
     }
 }
 

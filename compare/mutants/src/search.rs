@@ -3,7 +3,7 @@
 use crate::list::{Harm, Mutant};
 use crate::wrong::Wrong;
 use generator::alike::Pair;
-use reference::limits::MAX_VIEW;
+use reference::limits::{header, MAX_VIEW};
 use reference::read_by;
 use reference::rules::{Paper, Rules};
 
@@ -14,7 +14,7 @@ pub fn tells(mutant: Mutant, pair: &Pair) -> bool {
     match mutant.harm() {
         Harm::Leak => view(&wrong, &pair.file, pair.reader) != view(&wrong, &pair.other, pair.reader),
         Harm::Wrong => {
-            let labels = usize::from(pair.file[0]);
+            let labels = usize::from(pair.file[header::LABEL_COUNT]);
             (0..labels).any(|reader| view(&wrong, &pair.file, reader) != view(&Paper, &pair.file, reader))
         }
     }

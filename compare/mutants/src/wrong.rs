@@ -214,7 +214,7 @@ impl Rules for Wrong {
         }
     }
 
-    fn left(&self, outer: &mut Run, body: &Run, ending: Ending) {
+    fn leaving(&self, outer: &mut Run, body: &Run, ending: Ending) {
         match self.mutant {
             Mutant::StepsByUse => outer.steps_left += body.steps_left,
             Mutant::PlacesByUse | Mutant::PlaceCheckByUse => outer.places.next = body.places.next,

@@ -113,7 +113,7 @@ impl<'a> File<'a> {
     /// The input records, in the order of their places.
     pub fn records(&self) -> impl Iterator<Item = Record> + '_ {
         self.records.chunks_exact(input::LENGTH).map(|record| {
-            let number = [record[2], record[3], record[4], record[5]];
+            let number = *record[input::NUMBER..].first_chunk().expect("a number has four bytes");
             Record {
                 kind: if record[input::KIND] == 0 { Kind::Sealed } else { Kind::Reference },
                 label: self.labels[record[input::LABEL] as usize],

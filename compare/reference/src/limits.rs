@@ -8,11 +8,11 @@ pub const HIGHEST_MASK: u8 = 63;
 /// The most clauses none of which is a subset of another: all masks of three bits.
 pub const MAX_CLAUSES: usize = 20;
 
-pub const LABELS: RangeInclusive<usize> = 2..=32;
 pub const MAX_LABELS: usize = 32;
+pub const LABELS: RangeInclusive<usize> = 2..=MAX_LABELS;
 pub const MAX_RECORDS: usize = 64;
-pub const CODE_BYTES: RangeInclusive<usize> = 1..=4096;
 pub const MAX_CODE: usize = 4096;
+pub const CODE_BYTES: RangeInclusive<usize> = 1..=MAX_CODE;
 pub const MAX_PLACES: usize = 256;
 
 /// Values on the operand stack of one run.

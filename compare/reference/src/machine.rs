@@ -241,7 +241,7 @@ impl<R: Rules> Machine<'_, R> {
         let kept = self.rules.kept_store(&self.store);
         self.rules.entering(outer, body);
         let ending = self.run(body);
-        self.rules.left(outer, body, ending);
+        self.rules.leaving(outer, body, ending);
         if let Some(fault) = self.rules.crossing(ending) {
             return Err(fault);
         }

@@ -1,6 +1,6 @@
 //! The printed form: one line per label, that label reading.
 
-use crate::file::{File, Refusal};
+use crate::file::File;
 use crate::limits::{shown, view, MAX_VIEW};
 use crate::rules::Paper;
 use crate::{machine, view as views};
@@ -14,22 +14,16 @@ const RECORD: [usize; 7] = [1, 1, 8, 8, 2, 8, 8];
 pub fn lines(bytes: &[u8]) -> String {
     let file = match File::parse(bytes) {
         Ok(file) => file,
-        Err(refusal) => return refused(refusal),
+        Err(refusal) => return format!("refused {}\n", refusal.number()),
     };
     let finished = machine::run(&file, &Paper);
     let mut buffer = [0; MAX_VIEW];
     let mut text = String::new();
     for &reader in file.labels() {
-        match views::write(&finished, reader, &mut buffer, &Paper) {
-            Ok(length) => push_view(&mut text, &buffer[..length]),
-            Err(refusal) => text.push_str(&refused(refusal)),
-        }
+        let length = views::write(&finished, reader, &mut buffer, &Paper).expect("every view fits");
+        push_view(&mut text, &buffer[..length]);
     }
     text
-}
-
-fn refused(refusal: Refusal) -> String {
-    format!("refused {}\n", refusal.number())
 }
 
 /// The line for one view.

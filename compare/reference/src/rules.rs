@@ -160,7 +160,7 @@ pub trait Rules {
 
     /// A body has ended; `outer` is as it was, less what it paid.
     #[inline]
-    fn left(&self, _outer: &mut Run, _body: &Run, _ending: Ending) {}
+    fn leaving(&self, _outer: &mut Run, _body: &Run, _ending: Ending) {}
 
     /// A fault was caught; the handler's first instruction is next.
     #[inline]
