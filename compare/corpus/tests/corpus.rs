@@ -27,6 +27,19 @@ fn names_tell_files_apart() {
 }
 
 #[test]
+fn pairs_stand_side_by_side() {
+    let entries = corpus::entries();
+    let pairs = entries.windows(2).filter(|two| two[1].name.ends_with("the other"));
+    let mut count = 0;
+    for two in pairs {
+        count += 1;
+        assert_ne!(two[0].file, two[1].file, "{}", two[0].name);
+        assert_eq!(two[0].file.len(), two[1].file.len(), "{}", two[0].name);
+    }
+    assert!(count >= 80, "{count} pairs");
+}
+
+#[test]
 fn every_point_is_reached() {
     let coverage = Coverage::default();
     corpus::entries().iter().for_each(|entry| coverage.add(&entry.file));

@@ -220,8 +220,8 @@ impl Writer<'_> {
         }
     }
 
-    /// Blocks inside one another, to the limit and one past it. The innermost
-    /// body is one of the statements' own.
+    /// Blocks inside one another, to the limit and one past it. Some catch a
+    /// fault first; the innermost opens a record and branches on it.
     fn nest(&mut self, scope: Scope) {
         let levels = self.random.within(2, 9);
         let after = self.code.target();

@@ -9,22 +9,19 @@ use generator::alike::Pair;
 use reference::opcode::*;
 use reference::script::Code;
 
-/// Each pair with the mutants that it tells from the paper's rules.
-pub fn pairs() -> Vec<(&'static [Mutant], Pair)> {
+/// A pair, and mutants that it tells from the paper's rules.
+pub type Told = (&'static [Mutant], Pair);
+
+pub fn pairs() -> Vec<Told> {
     [by_outcome(), by_cost(), by_traces(), by_handlers(), by_views()].concat()
 }
 
-fn pair(mutants: &'static [Mutant], write: impl FnOnce(&mut Code)) -> Vec<(&'static [Mutant], Pair)> {
+fn pair(mutants: &'static [Mutant], write: impl FnOnce(&mut Code)) -> Vec<Told> {
     hiding(SEALED_PLAYER, PUBLIC, mutants, write)
 }
 
 /// A pair that differs in the number of `record`, which is hidden from `reader`.
-fn hiding(
-    record: u8,
-    reader: u8,
-    mutants: &'static [Mutant],
-    write: impl FnOnce(&mut Code),
-) -> Vec<(&'static [Mutant], Pair)> {
+fn hiding(record: u8, reader: u8, mutants: &'static [Mutant], write: impl FnOnce(&mut Code)) -> Vec<Told> {
     let mut code = Code::new();
     write(&mut code);
     let mut script = cases::script(&code);
@@ -66,11 +63,13 @@ fn make(code: &mut Code) {
 }
 
 /// What the outcome holds, and under which label.
-fn by_outcome() -> Vec<(&'static [Mutant], Pair)> {
+fn by_outcome() -> Vec<Told> {
     use Mutant::*;
     [
         pair(&[FaultOverBound, FaultCrosses, BoundFaultTells], |code| block(code, PUBLIC, end, throw)),
-        pair(&[SpentOverBound, SpentCrosses, SpentEndsOuter], |code| block(code, PUBLIC, end, spin)),
+        pair(&[SpentOverBound, SpentCrosses, SpentEndsOuter, OuterStepsTaken], |code| {
+            block(code, PUBLIC, end, spin)
+        }),
         pair(&[ResultOverBound, OpenUnraised], |code| {
             block(code, PUBLIC, end, |code| _ = code.push(8).end());
         }),
@@ -95,10 +94,10 @@ fn by_outcome() -> Vec<(&'static [Mutant], Pair)> {
 }
 
 /// What the block is charged.
-fn by_cost() -> Vec<(&'static [Mutant], Pair)> {
+fn by_cost() -> Vec<Told> {
     use Mutant::*;
     [
-        pair(&[StepsByUse, SpentEndsOuter, OuterStepsTaken], |code| block(code, PUBLIC, end, spin)),
+        pair(&[StepsByUse], |code| block(code, PUBLIC, end, |code| _ = code.push(8).op(POP))),
         pair(&[PlacesByUse, PlaceCheckByUse, HiddenCounted], |code| block(code, PUBLIC, end, make)),
         pair(&[OuterPlacesTaken], |code| {
             block(code, PUBLIC, end, |code| (0..8).for_each(|_| make(code)));
@@ -108,7 +107,7 @@ fn by_cost() -> Vec<(&'static [Mutant], Pair)> {
 }
 
 /// What a body leaves in the outer run or the store.
-fn by_traces() -> Vec<(&'static [Mutant], Pair)> {
+fn by_traces() -> Vec<Told> {
     use Mutant::*;
     [
         pair(&[ClearanceKept], |code| {
@@ -146,7 +145,7 @@ fn by_traces() -> Vec<(&'static [Mutant], Pair)> {
 }
 
 /// What handlers learn.
-fn by_handlers() -> Vec<(&'static [Mutant], Pair)> {
+fn by_handlers() -> Vec<Told> {
     use Mutant::*;
     [
         pair(&[TryLabel], |code| {
@@ -167,7 +166,7 @@ fn by_handlers() -> Vec<(&'static [Mutant], Pair)> {
 }
 
 /// What the view tells of a run whose final label is hidden.
-fn by_views() -> Vec<(&'static [Mutant], Pair)> {
+fn by_views() -> Vec<Told> {
     use Mutant::*;
     let acts = |mutants: &'static [Mutant], act: fn(&mut Code)| {
         pair(mutants, |code| {
