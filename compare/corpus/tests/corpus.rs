@@ -29,7 +29,7 @@ fn names_tell_files_apart() {
 #[test]
 fn pairs_stand_side_by_side() {
     let entries = corpus::entries();
-    let pairs = entries.windows(2).filter(|two| two[1].name.ends_with("the other"));
+    let pairs = entries.windows(2).filter(|two| two[1].name.ends_with(", the other"));
     let mut count = 0;
     for two in pairs {
         count += 1;
