@@ -136,3 +136,48 @@ fn full_view() -> Script {
     script.records.resize(MAX_RECORDS, Input::sealed(2, 7));
     script
 }
+
+#[cfg(test)]
+mod tests {
+    use super::*;
+    use reference::limits::shown;
+
+    fn load(name: &str) -> Load {
+        loads().into_iter().find(|load| load.name == name).expect("a load of this name")
+    }
+
+    fn read(load: &Load) -> (Result<usize, u8>, [u8; MAX_VIEW]) {
+        let mut buffer = [0; MAX_VIEW];
+        (reference::read(&load.file, load.reader, &mut buffer), buffer)
+    }
+
+    #[test]
+    fn loops_use_all_steps() {
+        for name in ["arithmetic loop", "record loop", "throw/catch loop"] {
+            assert_eq!(load(name).units(), 65_535, "{name}");
+        }
+    }
+
+    /// Their bodies end with their last step, so that every charged step is
+    /// obeyed. The last LAB and BLOCK find no place.
+    #[test]
+    fn blocks_use_all_places_and_hold_results() {
+        for (name, steps, outcomes) in
+            [("block loop", 254 * 10 + 2, 254), ("nested blocks", 31 * 27 + 2, 248)]
+        {
+            assert_eq!(load(name).units(), steps, "{name}");
+            let (answer, view) = read(&load(name));
+            // Shown are the two input records, too.
+            assert_eq!(answer, Ok(view::RECORDS + shown::LENGTH * (2 + outcomes)), "{name}");
+            let records = view[view::RECORDS..].chunks(shown::LENGTH).take(2 + outcomes);
+            const FAULT: u8 = 5;
+            assert!(records.into_iter().all(|record| record[shown::VALUE] != FAULT), "{name}");
+        }
+    }
+
+    #[test]
+    fn reads_end_as_they_are_named() {
+        assert_eq!(read(&load("refused late")).0, Err(7));
+        assert_eq!(read(&load("view of 256 records")).0, Ok(MAX_VIEW));
+    }
+}

@@ -68,3 +68,21 @@ unsafe fn run_on(lowest: *mut c_void, mut call: &mut dyn FnMut()) {
     done(pthread_join(thread, std::ptr::null_mut()));
     done(pthread_attr_destroy(&mut attributes));
 }
+
+#[cfg(test)]
+mod tests {
+    use super::peak;
+    use std::hint::black_box;
+
+    #[test]
+    fn a_large_frame_is_measured() {
+        let used = peak(|| _ = black_box([1u8; 100_000]));
+        assert!((99_000..110_000).contains(&used), "{used}");
+    }
+
+    #[test]
+    fn nothing_takes_next_to_nothing() {
+        let used = peak(|| ());
+        assert!(used < 200, "{used}");
+    }
+}

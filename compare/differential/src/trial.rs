@@ -63,3 +63,53 @@ impl Trial {
             .then_some("answers another length than its view's")
     }
 }
+
+#[cfg(test)]
+mod tests {
+    use super::*;
+
+    fn offence(read: Read) -> Option<&'static str> {
+        Trial::new(Implementation { name: "wrong", read }, &[], 0, 100).offence()
+    }
+
+    /// Writes the length field of a view and answers with it.
+    fn view_of(length: u16, buffer: &mut [u8]) -> Result<usize, u8> {
+        buffer[..usize::from(length)].fill(0);
+        buffer[view::LENGTH..view::LENGTH + 2].copy_from_slice(&length.to_le_bytes());
+        Ok(length.into())
+    }
+
+    #[test]
+    fn what_is_right_is_no_offence() {
+        assert_eq!(offence(|_, _, buffer| view_of(62, buffer)), None);
+        assert_eq!(offence(|_, _, buffer| view_of(98, buffer)), None);
+        assert_eq!(offence(|_, _, _| Err(9)), None);
+    }
+
+    #[test]
+    fn answers_that_cannot_be() {
+        assert!(offence(|_, _, _| Err(0)).is_some());
+        assert!(offence(|_, _, _| Err(10)).is_some());
+        assert!(offence(|_, _, _| Ok(101)).is_some());
+    }
+
+    #[test]
+    fn bytes_touched_behind_the_view() {
+        assert!(offence(|_, _, buffer| {
+            buffer[99] ^= 1;
+            view_of(98, buffer)
+        })
+        .is_some());
+        assert!(offence(|_, _, buffer| {
+            buffer[0] ^= 1;
+            Err(9)
+        })
+        .is_some());
+    }
+
+    #[test]
+    fn a_length_that_is_not_the_view_s() {
+        assert!(offence(|_, _, buffer| view_of(98, buffer).map(|length| length - 36)).is_some());
+        assert!(offence(|_, _, buffer| view_of(62, buffer).map(|_| 98)).is_some());
+    }
+}
