@@ -219,6 +219,14 @@ fn nested() -> Vec<Case> {
             });
         })
     }));
+    cases.extend((1..=8).map(|depth| {
+        case(format!("spent inside {depth} blocks"), Expected::fault(32), |code| {
+            nest(code, depth, |code| {
+                let again = code.here();
+                code.jump(again);
+            });
+        })
+    }));
     cases.push(case("eight blocks one behind the other", Expected::number(8), |code| {
         let body = code.target();
         code.push(0).set(0);

@@ -1,42 +1,39 @@
 //! What a set of files reaches: instructions, the faults they throw, the faults
-//! that OPEN throws out of outcomes, block depths and refusals.
+//! that OPEN throws out of outcomes, what happens inside blocks, refusals.
 
 use reference::label::Label;
-use reference::limits::{MAX_VIEW, NESTED_BLOCKS};
+use reference::limits::{header, view, MAX_VIEW, NESTED_BLOCKS};
 use reference::opcode::*;
+use reference::read_by;
 use reference::rules::{Raiser, Rules};
 use reference::run::Run;
-use reference::value::Fault;
-use reference::{limits::header, read_by};
+use reference::value::{Ending, Fault, Value};
 use std::cell::{Cell, RefCell};
 use std::collections::BTreeMap;
 use std::fmt;
 
-/// Something that a file can reach.
+/// Something that a file can reach. A depth is how many blocks a run is inside
+/// of, 0 for the outermost.
 #[derive(Clone, Copy, Debug, PartialEq, Eq, PartialOrd, Ord)]
 pub enum Point {
-    Obeyed {
-        opcode: u8,
-    },
-    Threw {
-        opcode: u8,
-        fault: u8,
-    },
+    Obeyed(Opcode),
+    Threw(Opcode, FaultCode),
     /// OPEN threw a fault that a body had ended with.
-    Unsealed {
-        fault: u8,
-    },
-    /// A fault was caught, in the outermost run (0) or inside blocks.
-    Caught {
-        depth: usize,
-    },
-    Entered {
-        depth: usize,
-    },
-    Refused {
-        number: u8,
-    },
+    Unsealed(FaultCode),
+    /// OPEN or READ gave a handle.
+    Handed(Opcode),
+    /// A body's result was a handle.
+    HandedOut,
+    Entered(Depth),
+    Caught(Depth),
+    Spent(Depth),
+    Lowered(Depth),
+    Refused(u8),
 }
+
+type Opcode = u8;
+type FaultCode = u8;
+type Depth = usize;
 
 /// The faults that an instruction can throw of itself.
 pub fn own_faults(opcode: u8) -> &'static [u8] {
@@ -58,20 +55,26 @@ pub fn own_faults(opcode: u8) -> &'static [u8] {
 
 /// Every point there is.
 pub fn all_points() -> Vec<Point> {
-    let mut points = Vec::new();
+    let mut points = vec![Point::Handed(OPEN), Point::Handed(READ), Point::HandedOut];
     for opcode in 0..OPCODES as u8 {
         // THROW never gets done.
         if opcode != THROW {
-            points.push(Point::Obeyed { opcode });
+            points.push(Point::Obeyed(opcode));
         }
-        points.extend(own_faults(opcode).iter().map(|&fault| Point::Threw { opcode, fault }));
+        points.extend(own_faults(opcode).iter().map(|&fault| Point::Threw(opcode, fault)));
     }
-    points.extend((20..=32).map(|fault| Point::Unsealed { fault }));
-    points.extend((0..=NESTED_BLOCKS).map(|depth| Point::Caught { depth }));
-    points.extend((1..=NESTED_BLOCKS).map(|depth| Point::Entered { depth }));
-    points.extend((1..=9).map(|number| Point::Refused { number }));
+    points.extend((20..=32).map(Point::Unsealed));
+    points.extend((1..=NESTED_BLOCKS).map(Point::Entered));
+    for of_depth in [Point::Caught, Point::Spent] {
+        points.extend((0..=NESTED_BLOCKS).map(of_depth));
+    }
+    points.extend((0..=1).map(Point::Lowered));
+    points.extend((1..=9).map(Point::Refused));
     points
 }
+
+/// The ending, in a view, of a run that was spent.
+const SPENT: u8 = 3;
 
 /// How often each point was reached.
 #[derive(Default)]
@@ -94,8 +97,10 @@ impl Coverage {
     }
 
     fn read(&self, file: &[u8], reader: usize, buffer: &mut [u8]) {
-        if let Err(refusal) = read_by(self, file, reader, buffer) {
-            self.reach(Point::Refused { number: refusal.number() });
+        match read_by(self, file, reader, buffer) {
+            Err(refusal) => self.reach(Point::Refused(refusal.number())),
+            Ok(_) if buffer[view::ENDING] == SPENT => self.reach(Point::Spent(0)),
+            Ok(_) => (),
         }
     }
 
@@ -119,49 +124,62 @@ impl Rules for Coverage {
     }
 
     fn entering(&self, _outer: &mut Run, body: &mut Run) {
-        self.reach(Point::Entered { depth: body.depth });
+        self.reach(Point::Entered(body.depth));
+    }
+
+    fn leaving(&self, _outer: &mut Run, body: &Run, ending: Ending) {
+        match ending {
+            Ending::Spent => self.reach(Point::Spent(body.depth)),
+            Ending::Result(Value::Sealed(_) | Value::Reference(_)) => self.reach(Point::HandedOut),
+            _ => (),
+        }
     }
 
     fn caught(&self, run: &mut Run, _fault: Fault) {
-        self.reach(Point::Caught { depth: run.depth });
+        self.reach(Point::Caught(run.depth));
     }
 
-    fn obeyed(&self, _run: &mut Run, opcode: u8, fault: Option<Fault>) {
-        self.reach(match fault.map(|fault| fault.code) {
-            None => Point::Obeyed { opcode },
-            Some(fault) if self.unsealing.take() => Point::Unsealed { fault },
-            Some(fault) => Point::Threw { opcode, fault },
-        });
-        self.unsealing.set(false);
+    fn obeyed(&self, run: &mut Run, opcode: u8, fault: Option<Fault>) {
+        let unsealing = self.unsealing.take();
+        match fault.map(|fault| fault.code) {
+            None => self.reach(Point::Obeyed(opcode)),
+            Some(fault) if unsealing => return self.reach(Point::Unsealed(fault)),
+            Some(fault) => return self.reach(Point::Threw(opcode, fault)),
+        }
+        if opcode == LOWER {
+            self.reach(Point::Lowered(run.depth));
+        }
+        let handle = |value| matches!(value, Value::Sealed(_) | Value::Reference(_));
+        if matches!(opcode, OPEN | READ) && handle(run.stack.operand(0)) {
+            self.reach(Point::Handed(opcode));
+        }
     }
 }
 
 impl fmt::Display for Coverage {
     fn fmt(&self, f: &mut fmt::Formatter) -> fmt::Result {
         for (opcode, shape) in (0u8..).zip(&SHAPES) {
-            write!(f, "{:<6} done {}", shape.name, self.count(Point::Obeyed { opcode }))?;
+            write!(f, "{:<6} done {}", shape.name, self.count(Point::Obeyed(opcode)))?;
             for &fault in own_faults(opcode) {
-                write!(f, ", {fault}: {}", self.count(Point::Threw { opcode, fault }))?;
+                write!(f, ", {fault}: {}", self.count(Point::Threw(opcode, fault)))?;
             }
             writeln!(f)?;
         }
-        let mut row = |name: &str, points: Vec<(usize, Point)>| {
+        let mut row = |name: &str, points: &mut dyn Iterator<Item = (usize, Point)>| {
             let counts: Vec<String> =
-                points.iter().map(|&(number, point)| format!("{number}: {}", self.count(point))).collect();
-            writeln!(f, "{name} {}", counts.join(", "))
+                points.map(|(number, point)| format!("{number}: {}", self.count(point))).collect();
+            writeln!(f, "{name}: {}", counts.join(", "))
         };
-        row(
-            "thrown by OPEN out of outcomes:",
-            numbered(20..=32, |fault| Point::Unsealed { fault: fault as u8 }),
-        )?;
-        row("bodies at depth:", numbered(1..=NESTED_BLOCKS, |depth| Point::Entered { depth }))?;
-        row("faults caught at depth:", numbered(0..=NESTED_BLOCKS, |depth| Point::Caught { depth }))?;
-        row("refusals:", numbered(1..=9, |number| Point::Refused { number: number as u8 }))?;
+        row("thrown by OPEN out of outcomes", &mut (20..=32).map(|n| (n, Point::Unsealed(n as u8))))?;
+        row("bodies at depth", &mut (1..=NESTED_BLOCKS).map(|n| (n, Point::Entered(n))))?;
+        row("faults caught at depth", &mut (0..=NESTED_BLOCKS).map(|n| (n, Point::Caught(n))))?;
+        row("spent at depth", &mut (0..=NESTED_BLOCKS).map(|n| (n, Point::Spent(n))))?;
+        row("clearance lowered at depth", &mut (0..=1).map(|n| (n, Point::Lowered(n))))?;
+        row("refusals", &mut (1..=9).map(|n| (n, Point::Refused(n as u8))))?;
+        let handed =
+            [Point::Handed(OPEN), Point::Handed(READ), Point::HandedOut].map(|point| self.count(point));
+        writeln!(f, "handles opened: {}, read: {}, out of bodies: {}", handed[0], handed[1], handed[2])?;
         let (all, missing) = (all_points().len(), self.missing());
         writeln!(f, "{} of {all} points reached, missing {missing:?}", all - missing.len())
     }
-}
-
-fn numbered(numbers: impl Iterator<Item = usize>, point: impl Fn(usize) -> Point) -> Vec<(usize, Point)> {
-    numbers.map(|number| (number, point(number))).collect()
 }
