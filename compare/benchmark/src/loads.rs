@@ -1,0 +1,183 @@
+//! The files that are timed.
+
+use reference::limits::{view, MAX_CODE, MAX_PLACES, MAX_RECORDS, MAX_VIEW};
+use reference::opcode::*;
+use reference::script::{Clauses, Code, Input, Script};
+
+/// What a figure is for.
+#[derive(Clone, Copy, Debug, PartialEq, Eq)]
+pub enum Unit {
+    /// A step that the run was charged.
+    Step,
+    /// A whole read.
+    Read,
+}
+
+pub struct Load {
+    pub name: &'static str,
+    pub file: Vec<u8>,
+    pub reader: usize,
+    pub unit: Unit,
+}
+
+impl Load {
+    /// How many units one read is.
+    pub fn units(&self) -> u32 {
+        match self.unit {
+            Unit::Read => 1,
+            Unit::Step => {
+                let mut buffer = [0; MAX_VIEW];
+                reference::read(&self.file, self.reader, &mut buffer).expect("loads by step are valid");
+                u16::from_le_bytes([buffer[view::STEPS], buffer[view::STEPS + 1]]).into()
+            }
+        }
+    }
+}
+
+pub fn loads() -> Vec<Load> {
+    let by_step = |name, script: Script| Load { name, file: script.bytes(), reader: 1, unit: Unit::Step };
+    let by_read = |name, script: Script| Load { name, file: script.bytes(), reader: 1, unit: Unit::Read };
+    vec![
+        by_step("arithmetic loop", endless(arithmetic)),
+        by_step("record loop", endless(records)),
+        by_step("block loop", blocks()),
+        by_step("nested blocks", nested()),
+        by_step("throw/catch loop", endless(throw)),
+        by_read("refused late", refused_late()),
+        by_read("view of 256 records", full_view()),
+    ]
+}
+
+fn script(code: &Code) -> Script {
+    Script {
+        labels: vec![Clauses::default(), Clauses::new(&[1, 2], &[]), Clauses::new(&[1], &[])],
+        records: vec![Input::sealed(2, 7), Input::reference(2, 0)],
+        code: code.bytes(),
+        steps: u16::MAX,
+        places: MAX_PLACES as u16,
+    }
+}
+
+/// `write` again and again, until the run is spent.
+fn endless(write: fn(&mut Code)) -> Script {
+    let mut code = Code::new();
+    let again = code.here();
+    write(&mut code);
+    code.jump(again);
+    script(&code)
+}
+
+fn arithmetic(code: &mut Code) {
+    let small = code.target();
+    code.get(0).push(3).op(ADD).set(0).get(0).push(1000).op(LESS).ifz(small);
+    code.get(0).push(1).op(SUB).set(0).place(small);
+}
+
+/// Reads and writes a reference and opens a sealed record, all at one label.
+fn records(code: &mut Code) {
+    code.lab(2).op(RAISE).input(0).op(OPEN).input(1).ops(&[READ, ADD]).input(1).op(WRITE);
+}
+
+fn throw(code: &mut Code) {
+    let handler = code.target();
+    code.try_to(handler).push(8).op(THROW).place(handler).ops(&[POP, POP]);
+}
+
+/// As many blocks as there are places. Each body uses what it is lent.
+fn blocks() -> Script {
+    let mut code = Code::new();
+    let (body, again) = (code.target(), code.here());
+    code.lab(2).block(body, 6, 0).op(POP).jump(again);
+    code.place(body).get(0).push(1).op(ADD).set(0).get(0).end();
+    script(&code)
+}
+
+/// Eight blocks inside one another, as often as there are places.
+fn nested() -> Script {
+    const DEPTH: u16 = 8;
+    let mut code = Code::new();
+    let again = code.here();
+    for level in 0..DEPTH {
+        let body = code.target();
+        let inner = DEPTH - level - 1;
+        // LAB, BLOCK and END of every body further in, and PUSH, END in the last.
+        code.lab(2).block(body, 3 * inner + 2, inner as u8);
+        if level == 0 {
+            code.op(POP).jump(again);
+        } else {
+            code.end();
+        }
+        code.place(body);
+    }
+    code.push(1).end();
+    script(&code)
+}
+
+/// Every part as long as it may be; only the last instruction is wrong.
+fn refused_late() -> Script {
+    let mut code = Code::new();
+    while code.len() < MAX_CODE - 1 {
+        code.op(CUR);
+    }
+    code.op(POP);
+    let twenty: Vec<u8> = (0u8..64).filter(|mask| mask.count_ones() == 3).collect();
+    let mut script = script(&code);
+    script.labels.resize(32, Clauses::new(&twenty, &twenty));
+    script.records.resize(MAX_RECORDS, Input::sealed(2, 7));
+    script
+}
+
+/// Makes a record in every place, and the reader sees them all.
+fn full_view() -> Script {
+    let mut code = Code::new();
+    let again = code.here();
+    code.push(1).lab(2).ops(&[SEAL, POP]).jump(again);
+    let mut script = script(&code);
+    script.records.resize(MAX_RECORDS, Input::sealed(2, 7));
+    script
+}
+
+#[cfg(test)]
+mod tests {
+    use super::*;
+    use reference::limits::shown;
+
+    fn load(name: &str) -> Load {
+        loads().into_iter().find(|load| load.name == name).expect("a load of this name")
+    }
+
+    fn read(load: &Load) -> (Result<usize, u8>, [u8; MAX_VIEW]) {
+        let mut buffer = [0; MAX_VIEW];
+        (reference::read(&load.file, load.reader, &mut buffer), buffer)
+    }
+
+    #[test]
+    fn loops_use_all_steps() {
+        for name in ["arithmetic loop", "record loop", "throw/catch loop"] {
+            assert_eq!(load(name).units(), 65_535, "{name}");
+        }
+    }
+
+    /// Their bodies end with their last step, so that every charged step is
+    /// obeyed. The last LAB and BLOCK find no place.
+    #[test]
+    fn blocks_use_all_places_and_hold_results() {
+        for (name, steps, outcomes) in
+            [("block loop", 254 * 10 + 2, 254), ("nested blocks", 31 * 27 + 2, 248)]
+        {
+            assert_eq!(load(name).units(), steps, "{name}");
+            let (answer, view) = read(&load(name));
+            // Shown are the two input records, too.
+            assert_eq!(answer, Ok(view::RECORDS + shown::LENGTH * (2 + outcomes)), "{name}");
+            let records = view[view::RECORDS..].chunks(shown::LENGTH).take(2 + outcomes);
+            const FAULT: u8 = 5;
+            assert!(records.into_iter().all(|record| record[shown::VALUE] != FAULT), "{name}");
+        }
+    }
+
+    #[test]
+    fn reads_end_as_they_are_named() {
+        assert_eq!(read(&load("refused late")).0, Err(7));
+        assert_eq!(read(&load("view of 256 records")).0, Ok(MAX_VIEW));
+    }
+}

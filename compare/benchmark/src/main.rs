@@ -1,0 +1,82 @@
+//! Times every load on every implementation, in turns, and keeps the best; then
+//! measures the stack that each takes.
+
+mod loads;
+mod stack;
+
+use loads::{loads, Load, Unit};
+use reference::limits::MAX_VIEW;
+use std::hint::black_box;
+use std::time::{Duration, Instant};
+
+type Read = fn(&[u8], usize, &mut [u8]) -> Result<usize, u8>;
+
+const IMPLEMENTATIONS: &[(&str, Read)] = &[
+    ("reference", reference::read),
+    #[cfg(feature = "proved")]
+    ("proved", nechwalu::read),
+];
+
+const ROUNDS: usize = 200;
+/// Long enough for the clock, short enough for a round to be undisturbed.
+const ROUND: Duration = Duration::from_micros(500);
+
+fn main() {
+    println!("best of {ROUNDS} rounds; stack in bytes touched");
+    for load in loads() {
+        let best = best_times(&load);
+        let figures: Vec<String> = IMPLEMENTATIONS
+            .iter()
+            .zip(&best)
+            .map(|(&(name, read), nanoseconds)| {
+                format!("{name} {nanoseconds:.2} ns, stack {}", peak_stack(&load, read))
+            })
+            .collect();
+        let unit = match load.unit {
+            Unit::Step => "step",
+            Unit::Read => "read",
+        };
+        let ratio = match best[..] {
+            [reference, proved] => format!("; ratio {:.2}", proved / reference),
+            _ => String::new(),
+        };
+        println!("{:<20} per {unit}: {}{ratio}", load.name, figures.join("; "));
+    }
+}
+
+/// For each implementation the best time of one unit, in nanoseconds.
+fn best_times(load: &Load) -> Vec<f64> {
+    let units = f64::from(load.units());
+    let repeats: Vec<u32> = IMPLEMENTATIONS.iter().map(|&(_, read)| repeats(load, read)).collect();
+    let mut best = vec![f64::INFINITY; IMPLEMENTATIONS.len()];
+    for _ in 0..ROUNDS {
+        for (at, &(_, read)) in IMPLEMENTATIONS.iter().enumerate() {
+            let time = time(load, read, repeats[at]).as_nanos() as f64;
+            best[at] = best[at].min(time / f64::from(repeats[at]) / units);
+        }
+    }
+    best
+}
+
+/// How many reads fill a round.
+fn repeats(load: &Load, read: Read) -> u32 {
+    let mut repeats = 1;
+    while time(load, read, repeats) < ROUND {
+        repeats *= 2;
+    }
+    repeats
+}
+
+fn time(load: &Load, read: Read, repeats: u32) -> Duration {
+    let mut buffer = [0; MAX_VIEW];
+    let start = Instant::now();
+    for _ in 0..repeats {
+        _ = black_box(read(black_box(&load.file), load.reader, &mut buffer));
+    }
+    start.elapsed()
+}
+
+fn peak_stack(load: &Load, read: Read) -> usize {
+    let mut buffer = vec![0; MAX_VIEW];
+    stack::peak(|| _ = black_box(read(&load.file, load.reader, &mut buffer)))
+}

@@ -1,0 +1,103 @@
+//! Runs the implementations on hand-worked and generated files and on alike
+//! pairs, and says how often they differ.
+
+mod compare;
+mod trial;
+
+use compare::Comparison;
+use generator::alike::{self, Pair};
+use generator::exhaust;
+use generator::random::Random;
+use mutants::by_hand;
+use reference::limits::header;
+use std::process::ExitCode;
+use trial::IMPLEMENTATIONS;
+
+const USAGE: &str = "usage: differential [--files N] [--pairs N] [--seed N]";
+
+/// Every so many files, one is also run with each smaller allotment.
+const EXHAUSTED: u64 = 500;
+
+struct Bounds {
+    files: u64,
+    pairs: u64,
+    seed: u64,
+}
+
+fn main() -> ExitCode {
+    let Some(bounds) = bounds(std::env::args().skip(1)) else {
+        eprintln!("{USAGE}");
+        return ExitCode::FAILURE;
+    };
+    let mut comparison = Comparison::default();
+    by_hand_files(&mut comparison);
+    generated_files(&mut comparison, &bounds);
+    generated_pairs(&mut comparison, &bounds);
+    let names: Vec<&str> = IMPLEMENTATIONS.iter().map(|implementation| implementation.name).collect();
+    let Comparison { files, reads, pairs, differences } = comparison;
+    println!(
+        "{}: {files} files, {pairs} alike pairs, {reads} reads, {differences} differences",
+        names.join(" and ")
+    );
+    if differences == 0 {
+        ExitCode::SUCCESS
+    } else {
+        ExitCode::FAILURE
+    }
+}
+
+fn bounds(mut arguments: impl Iterator<Item = String>) -> Option<Bounds> {
+    let mut bounds = Bounds { files: 20_000, pairs: 5_000, seed: 0 };
+    while let Some(name) = arguments.next() {
+        let number = arguments.next()?.parse().ok()?;
+        match name.as_str() {
+            "--files" => bounds.files = number,
+            "--pairs" => bounds.pairs = number,
+            "--seed" => bounds.seed = number,
+            _ => return None,
+        }
+    }
+    Some(bounds)
+}
+
+fn by_hand_files(comparison: &mut Comparison) {
+    let mut random = Random::new(0);
+    for case in cases::all() {
+        comparison.file(&case.name, &case.file, &mut random);
+    }
+    for (mutants, pair) in by_hand::pairs() {
+        let name = format!("by hand for {mutants:?}");
+        comparison.file(&name, &pair.file, &mut random);
+        comparison.pair(&name, &pair);
+    }
+}
+
+fn generated_files(comparison: &mut Comparison, bounds: &Bounds) {
+    for seed in bounds.seed..bounds.seed + bounds.files {
+        let name = format!("seed {seed}");
+        let mut random = Random::new(!seed);
+        let file = generator::any(seed);
+        comparison.file(&name, &file, &mut random);
+        if seed % EXHAUSTED == 0 {
+            for variant in exhaust::variants(&file) {
+                comparison.file(&format!("{name}, exhausted"), &variant, &mut random);
+            }
+        }
+    }
+}
+
+fn generated_pairs(comparison: &mut Comparison, bounds: &Bounds) {
+    for seed in bounds.seed..bounds.seed + bounds.pairs {
+        let name = format!("pair of seed {seed}");
+        let pair = alike::pair(seed);
+        comparison.pair(&name, &pair);
+        if seed % EXHAUSTED == 0 {
+            // The allotment is not hidden, so both files get the one of the first.
+            for file in exhaust::variants(&pair.file) {
+                let mut other = pair.other.clone();
+                other[..header::LENGTH].copy_from_slice(&file[..header::LENGTH]);
+                comparison.pair(&format!("{name}, exhausted"), &Pair { file, other, reader: pair.reader });
+            }
+        }
+    }
+}

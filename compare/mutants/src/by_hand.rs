@@ -1,0 +1,193 @@
+//! Pairs written by hand, for mutants that chance may be slow to find. In most
+//! a public reader is shown the views; the record PLAYER holds 0 in one file
+//! and 7 in the other, and it is hidden from that reader.
+
+use crate::list::Mutant;
+use cases::label::{CLEARANCE, PLAYER, PUBLIC, VOUCHED};
+use cases::record::{REFERENCE_PUBLIC, SEALED_DEALER, SEALED_PLAYER, SEALED_PUBLIC};
+use generator::alike::Pair;
+use reference::opcode::*;
+use reference::script::Code;
+
+/// A pair, and mutants that it tells from the paper's rules.
+pub type Told = (&'static [Mutant], Pair);
+
+pub fn pairs() -> Vec<Told> {
+    [by_outcome(), by_cost(), by_traces(), by_handlers(), by_views()].concat()
+}
+
+fn pair(mutants: &'static [Mutant], write: impl FnOnce(&mut Code)) -> Vec<Told> {
+    hiding(SEALED_PLAYER, PUBLIC, mutants, write)
+}
+
+/// A pair that differs in the number of `record`, which is hidden from `reader`.
+fn hiding(record: u8, reader: u8, mutants: &'static [Mutant], write: impl FnOnce(&mut Code)) -> Vec<Told> {
+    let mut code = Code::new();
+    write(&mut code);
+    let mut script = cases::script(&code);
+    let file = script.bytes();
+    script.records[record as usize].number = 0;
+    vec![(mutants, Pair { file, other: script.bytes(), reader: reader.into() })]
+}
+
+/// A block with `bound`; then `after`, with the outcome's handle on the stack.
+/// The body opens the hidden number and does `act` if it is not 0.
+fn block(code: &mut Code, bound: u8, after: impl FnOnce(&mut Code), act: impl FnOnce(&mut Code)) {
+    let (body, zero) = (code.target(), code.target());
+    code.lab(bound).block(body, 40, 3);
+    after(code);
+    code.place(body).input(SEALED_PLAYER).op(OPEN).ifz(zero);
+    act(code);
+    code.place(zero).push(1).end();
+}
+
+fn end(code: &mut Code) {
+    code.end();
+}
+
+fn throw(code: &mut Code) {
+    code.push(8).op(THROW);
+}
+
+fn spin(code: &mut Code) {
+    let again = code.here();
+    code.jump(again);
+}
+
+fn raise(code: &mut Code) {
+    code.lab(CLEARANCE).op(RAISE);
+}
+
+fn make(code: &mut Code) {
+    code.push(2).ops(&[CUR, SEAL, POP]);
+}
+
+/// What the outcome holds, and under which label.
+fn by_outcome() -> Vec<Told> {
+    use Mutant::*;
+    [
+        pair(&[FaultOverBound, FaultCrosses, BoundFaultTells], |code| block(code, PUBLIC, end, throw)),
+        pair(&[SpentOverBound, SpentCrosses, SpentEndsOuter, OuterStepsTaken], |code| {
+            block(code, PUBLIC, end, spin)
+        }),
+        pair(&[ResultOverBound, OpenUnraised], |code| {
+            block(code, PUBLIC, end, |code| _ = code.push(8).end());
+        }),
+        // Two ways to learn of the outcome's label: by asking for it, and by
+        // whether the outcome can be opened under a lowered clearance.
+        pair(&[OutcomeByFinalLabel, OutcomeByJoin], |code| {
+            block(code, PLAYER, |code| _ = code.ops(&[LABOF, END]), raise);
+        }),
+        pair(&[OutcomeByFinalLabel, OutcomeByJoin], |code| {
+            let after = |code: &mut Code| {
+                let handler = code.target();
+                code.lab(PLAYER).op(LOWER).try_to(handler).ops(&[OPEN, POP]);
+                code.place(handler).push(1).end();
+            };
+            block(code, PLAYER, after, raise);
+        }),
+        pair(&[UnopenedFaultTells], |code| {
+            block(code, PLAYER, |code| _ = code.lab(PUBLIC).ops(&[LOWER, OPEN, END]), throw);
+        }),
+    ]
+    .concat()
+}
+
+/// What the block is charged.
+fn by_cost() -> Vec<Told> {
+    use Mutant::*;
+    [
+        pair(&[StepsByUse], |code| block(code, PUBLIC, end, |code| _ = code.push(8).op(POP))),
+        pair(&[PlacesByUse, PlaceCheckByUse, HiddenCounted], |code| block(code, PUBLIC, end, make)),
+        pair(&[OuterPlacesTaken], |code| {
+            block(code, PUBLIC, end, |code| (0..8).for_each(|_| make(code)));
+        }),
+    ]
+    .concat()
+}
+
+/// What a body leaves in the outer run or the store.
+fn by_traces() -> Vec<Told> {
+    use Mutant::*;
+    [
+        pair(&[ClearanceKept], |code| {
+            block(code, PUBLIC, end, |code| _ = code.lab(PLAYER).op(LOWER));
+        }),
+        pair(&[LocalsShared], |code| {
+            block(code, PUBLIC, |code| _ = code.op(POP).get(0).end(), |code| _ = code.push(8).set(0));
+        }),
+        pair(&[WriteUnchecked], |code| {
+            block(code, PUBLIC, end, |code| _ = code.push(8).input(REFERENCE_PUBLIC).op(WRITE));
+        }),
+        pair(&[SealUnchecked], |code| {
+            block(code, PUBLIC, end, |code| _ = code.push(8).lab(PUBLIC).op(SEAL));
+        }),
+        pair(&[NewUnchecked], |code| {
+            block(code, PUBLIC, end, |code| _ = code.push(8).lab(PUBLIC).op(NEW));
+        }),
+        pair(&[BlockUnchecked], |code| {
+            block(code, PUBLIC, end, |code| {
+                let body = code.target();
+                code.lab(PUBLIC).block(body, 1, 0);
+                code.place(body).op(POP);
+            });
+        }),
+        // The body leaves a public record before it looks.
+        pair(&[RolledBack], |code| {
+            let (body, zero) = (code.target(), code.target());
+            code.lab(PLAYER).block(body, 20, 3).end();
+            code.place(body).push(2).ops(&[CUR, SEAL, POP]).input(SEALED_PLAYER).op(OPEN).ifz(zero);
+            raise(code);
+            code.place(zero).push(1).end();
+        }),
+    ]
+    .concat()
+}
+
+/// What handlers learn.
+fn by_handlers() -> Vec<Told> {
+    use Mutant::*;
+    [
+        pair(&[TryLabel], |code| {
+            let handler = code.target();
+            code.try_to(handler).input(SEALED_PLAYER).ops(&[OPEN, THROW]);
+            code.place(handler).end();
+        }),
+        pair(&[OpenFaultUnraised], |code| {
+            let after = |code: &mut Code| {
+                let handler = code.target();
+                code.try_to(handler).op(OPEN);
+                code.place(handler).end();
+            };
+            block(code, PLAYER, after, throw);
+        }),
+    ]
+    .concat()
+}
+
+/// What the view tells of a run whose final label is hidden.
+fn by_views() -> Vec<Told> {
+    use Mutant::*;
+    let acts = |mutants: &'static [Mutant], act: fn(&mut Code)| {
+        pair(mutants, |code| {
+            let zero = code.target();
+            code.input(SEALED_PLAYER).op(OPEN).ifz(zero);
+            act(code);
+            code.place(zero).push(1).end();
+        })
+    };
+    [
+        acts(&[EndingShown, ResultShown], throw),
+        acts(&[StepsShown, NextPlaceShown, HiddenCounted], make),
+        acts(&[LabelShown], raise),
+        acts(&[ClearanceShown], |code| _ = code.lab(PLAYER).op(LOWER)),
+        acts(&[OpenReplaces], |code| {
+            code.input(SEALED_PUBLIC).ops(&[OPEN, END]);
+        }),
+        // Hidden for want of integrity: no one vouches for what is public.
+        hiding(SEALED_PUBLIC, VOUCHED, &[IntegrityBackwards], |code| _ = code.push(1).end()),
+        acts(&[RaiseReplaces], |code| _ = code.lab(PUBLIC).ops(&[RAISE, CUR, END])),
+        acts(&[JoinOrsSecrecy], |code| _ = code.input(SEALED_DEALER).ops(&[OPEN, END])),
+    ]
+    .concat()
+}

@@ -1,0 +1,115 @@
+//! The wrong rules, by name.
+
+/// How a mutant is to be told from the paper's rules.
+#[derive(Clone, Copy, Debug, PartialEq, Eq)]
+pub enum Harm {
+    /// Two alike files give different views.
+    Leak,
+    /// A file gives another view than by the paper.
+    Wrong,
+}
+
+macro_rules! mutants {
+    ($($name:ident $harm:ident $says:literal,)*) => {
+        #[derive(Clone, Copy, Debug, PartialEq, Eq)]
+        pub enum Mutant {
+            $($name,)*
+        }
+
+        pub const MUTANTS: &[Mutant] = &[$(Mutant::$name,)*];
+
+        impl Mutant {
+            pub fn harm(self) -> Harm {
+                match self {
+                    $(Mutant::$name => Harm::$harm,)*
+                }
+            }
+
+            /// What the mutant does instead of the paper's rule.
+            pub fn says(self) -> &'static str {
+                match self {
+                    $(Mutant::$name => $says,)*
+                }
+            }
+        }
+    };
+}
+
+mutants! {
+    // The paper's wrong turns.
+    StepsByUse Leak "a block is charged the steps that it used",
+    PlacesByUse Leak "a block is charged the places that it used",
+    FaultCrosses Leak "a body's fault is thrown by BLOCK",
+    SpentOverBound Leak "32 where a spent body's label passed the bound",
+    OutcomeByFinalLabel Leak "the outcome bears the body's final label",
+    IntegrityBackwards Leak "integrity is checked in secrecy's direction",
+    HiddenCounted Leak "the view counts hidden records",
+
+    // Blocks.
+    PlaceCheckByUse Leak "26 by the places that a body uses, which it is charged",
+    SpentCrosses Leak "32 is thrown by BLOCK",
+    SpentEndsOuter Leak "a spent body leaves the outer run without steps",
+    FaultOverBound Leak "a body's own fault where its label passed the bound",
+    ResultOverBound Leak "a body's result where its label passed the bound",
+    BoundFaultTells Leak "31 bears the code of the fault that it stands for",
+    CodesSwapped Wrong "31 for spent and 32 for a label past the bound",
+    OutcomeByJoin Leak "the outcome bears the join of bound and final label",
+    LabelKept Wrong "a body's label stays after the block",
+    ClearanceKept Leak "a body's clearance stays after the block",
+    LocalsShared Leak "a body's changes to locals stay",
+    LocalsBlank Wrong "a body starts with locals of 0",
+    StackShared Wrong "a body starts with the outer stack",
+    FramesShared Wrong "a body starts with the outer frames",
+    RolledBack Leak "what a body made is undone if its label passed the bound",
+    OuterStepsTaken Leak "a body goes on with the outer run's steps",
+    OuterPlacesTaken Leak "a body goes on with the outer run's places",
+    NineBlocks Wrong "nine nested blocks run",
+    SevenBlocks Wrong "seven nested blocks run and the eighth does not",
+    LastStepKept Wrong "27 also for all steps that are left",
+    LastPlaceKept Wrong "26 also for all places that are left",
+
+    // Raising.
+    OpenUnraised Leak "OPEN does not raise",
+    OpenFaultUnraised Leak "OPEN of a sealed fault does not raise",
+    ReadUnraised Leak "READ does not raise",
+    OpenReplaces Leak "OPEN sets the label to the record's",
+    ReadReplaces Leak "READ sets the label to the record's",
+    RaiseReplaces Leak "RAISE sets the label to its operand",
+    LabofRaises Wrong "LABOF raises",
+    JoinAndsIntegrity Leak "join takes the AND of integrity",
+    JoinOrsSecrecy Leak "join takes the OR of secrecy",
+    MeetIsJoin Wrong "meet is join",
+
+    // Checks.
+    SealUnchecked Leak "SEAL without check 23",
+    NewUnchecked Leak "NEW without check 23",
+    WriteUnchecked Leak "WRITE without check 23",
+    BlockUnchecked Leak "BLOCK without check 23",
+    SealUncleared Wrong "SEAL without check 24",
+    NewUncleared Wrong "NEW without check 24",
+    WriteUncleared Wrong "WRITE without check 24",
+    BlockUncleared Wrong "BLOCK without check 24",
+    RaiseUncleared Wrong "RAISE without check 24",
+    OpenUncleared Wrong "OPEN without check 24",
+    ReadUncleared Wrong "READ without check 24",
+    UnopenedFaultTells Leak "OPEN of a sealed fault above the clearance throws it",
+    LowerBelowLabel Wrong "LOWER may go below the label",
+    LowerGoesUp Wrong "LOWER may go above the old clearance",
+
+    // Handlers.
+    TryLabel Leak "a handler runs with the label that stood at TRY",
+    TryClearance Wrong "a handler runs with the clearance that stood at TRY",
+    CodeOnTop Wrong "a handler gets the number below the code",
+    OperandsPopped Wrong "the operands of a faulting instruction are popped",
+    FaultsFree Wrong "a faulting instruction takes no step",
+
+    // Views.
+    HiddenShown Leak "the view shows hidden records",
+    ShownByFinalLabel Leak "records are shown by the run's final label",
+    EndingShown Leak "the ending is shown where the final label is hidden",
+    StepsShown Leak "the steps are shown where the final label is hidden",
+    NextPlaceShown Leak "the next place is shown where the final label is hidden",
+    ResultShown Leak "the result is shown where the final label is hidden",
+    LabelShown Leak "the final label is shown where it is hidden",
+    ClearanceShown Leak "the clearance is shown where the final label is hidden",
+}

@@ -1,0 +1,262 @@
+//! The mutants as rules.
+
+use crate::list::Mutant;
+use reference::label::{implies, Label};
+use reference::limits::{LOCALS, NESTED_BLOCKS};
+use reference::opcode::*;
+use reference::rules::{Field, Paper, Raiser, Rules};
+use reference::run::Run;
+use reference::store::Store;
+use reference::value::{Content, Ending, Fault, Value};
+use std::cell::RefCell;
+
+/// The paper's rules but for one.
+pub struct Wrong {
+    mutant: Mutant,
+    /// Label and clearance at each TRY, by depth of block and count of frames,
+    /// for the mutants that go back to them.
+    tries: RefCell<[[(Label, Label); 8]; 10]>,
+}
+
+impl Wrong {
+    pub fn new(mutant: Mutant) -> Wrong {
+        Wrong { mutant, tries: RefCell::new([[(Label::PUBLIC, Label::PUBLIC); 8]; 10]) }
+    }
+
+    fn is(&self, mutant: Mutant) -> bool {
+        self.mutant == mutant
+    }
+
+    /// The opcode whose check 23 is left out, if one is.
+    fn untargeted(&self) -> Option<u8> {
+        match self.mutant {
+            Mutant::SealUnchecked => Some(SEAL),
+            Mutant::NewUnchecked => Some(NEW),
+            Mutant::WriteUnchecked => Some(WRITE),
+            Mutant::BlockUnchecked => Some(BLOCK),
+            _ => None,
+        }
+    }
+
+    /// The opcode whose check 24 is left out, if one is.
+    fn uncleared(&self) -> Option<u8> {
+        match self.mutant {
+            Mutant::SealUncleared => Some(SEAL),
+            Mutant::NewUncleared => Some(NEW),
+            Mutant::WriteUncleared => Some(WRITE),
+            Mutant::BlockUncleared => Some(BLOCK),
+            Mutant::RaiseUncleared => Some(RAISE),
+            Mutant::OpenUncleared => Some(OPEN),
+            Mutant::ReadUncleared => Some(READ),
+            _ => None,
+        }
+    }
+}
+
+impl Rules for Wrong {
+    fn flows(&self, from: Label, to: Label) -> bool {
+        if self.is(Mutant::IntegrityBackwards) {
+            return implies(to.secrecy, from.secrecy) && implies(to.integrity, from.integrity);
+        }
+        Paper.flows(from, to)
+    }
+
+    fn join(&self, one: Label, other: Label) -> Label {
+        let mut joined = Paper.join(one, other);
+        if self.is(Mutant::JoinAndsIntegrity) {
+            joined.integrity = one.integrity & other.integrity;
+        }
+        if self.is(Mutant::JoinOrsSecrecy) {
+            joined.secrecy = one.secrecy | other.secrecy;
+        }
+        joined
+    }
+
+    fn meet(&self, one: Label, other: Label) -> Label {
+        if self.is(Mutant::MeetIsJoin) {
+            return Paper.join(one, other);
+        }
+        Paper.meet(one, other)
+    }
+
+    fn may_target(&self, opcode: u8, current: Label, target: Label) -> bool {
+        self.untargeted() == Some(opcode) || self.flows(current, target)
+    }
+
+    fn within_clearance(&self, opcode: u8, label: Label, clearance: Label) -> bool {
+        self.uncleared() == Some(opcode) || self.flows(label, clearance)
+    }
+
+    fn may_lower(&self, current: Label, new: Label, old: Label) -> bool {
+        (self.is(Mutant::LowerBelowLabel) || self.flows(current, new))
+            && (self.is(Mutant::LowerGoesUp) || self.flows(new, old))
+    }
+
+    fn may_nest(&self, depth: usize) -> bool {
+        match self.mutant {
+            Mutant::NineBlocks => depth < NESTED_BLOCKS + 1,
+            Mutant::SevenBlocks => depth < NESTED_BLOCKS - 1,
+            _ => Paper.may_nest(depth),
+        }
+    }
+
+    fn may_lend_steps(&self, steps: u16, left: u16) -> bool {
+        Paper.may_lend_steps(steps, left) && !(self.is(Mutant::LastStepKept) && steps == left)
+    }
+
+    fn may_lend_places(&self, places: usize, left: usize) -> bool {
+        match self.mutant {
+            Mutant::PlaceCheckByUse => left > 0,
+            Mutant::LastPlaceKept => places + 1 < left,
+            _ => Paper.may_lend_places(places, left),
+        }
+    }
+
+    fn raised(&self, raiser: Raiser, current: Label, by: Label, raised: Label) -> Label {
+        match (self.mutant, raiser) {
+            (Mutant::OpenUnraised, Raiser::Open)
+            | (Mutant::OpenFaultUnraised, Raiser::OpenFault)
+            | (Mutant::ReadUnraised, Raiser::Read) => current,
+            (Mutant::OpenReplaces, Raiser::Open)
+            | (Mutant::ReadReplaces, Raiser::Read)
+            | (Mutant::RaiseReplaces, Raiser::Raise) => by,
+            _ => raised,
+        }
+    }
+
+    fn unopened(&self, content: Content) -> Fault {
+        match content {
+            Content::Fault(fault) if self.is(Mutant::UnopenedFaultTells) => fault,
+            _ => Paper.unopened(content),
+        }
+    }
+
+    fn outcome(&self, ending: Ending, within_bound: bool) -> Content {
+        let right = Paper.outcome(ending, within_bound);
+        match (self.mutant, ending) {
+            (Mutant::SpentOverBound, Ending::Spent)
+            | (Mutant::FaultOverBound, Ending::Fault(_))
+            | (Mutant::ResultOverBound, Ending::Result(_)) => Paper.outcome(ending, true),
+            (Mutant::BoundFaultTells, Ending::Fault(fault)) if !within_bound => {
+                Content::Fault(Fault { number: fault.code.into(), ..Fault::ABOVE_BOUND })
+            }
+            (Mutant::CodesSwapped, _) => match right {
+                Content::Fault(Fault::ABOVE_BOUND) => Content::Fault(Fault::SPENT),
+                Content::Fault(Fault::SPENT) => Content::Fault(Fault::ABOVE_BOUND),
+                other => other,
+            },
+            _ => right,
+        }
+    }
+
+    fn outcome_label(&self, bound: Label, last: Label) -> Label {
+        match self.mutant {
+            Mutant::OutcomeByFinalLabel => last,
+            Mutant::OutcomeByJoin => bound.join(last),
+            _ => bound,
+        }
+    }
+
+    fn crossing(&self, ending: Ending) -> Option<Fault> {
+        match (self.mutant, ending) {
+            (Mutant::FaultCrosses, Ending::Fault(fault)) => Some(fault),
+            (Mutant::SpentCrosses, Ending::Spent) => Some(Fault::SPENT),
+            _ => None,
+        }
+    }
+
+    fn kept_store(&self, store: &Store) -> Option<Store> {
+        self.is(Mutant::RolledBack).then(|| store.clone())
+    }
+
+    fn shows(&self, record: Label, last: Label, reader: Label) -> bool {
+        match self.mutant {
+            Mutant::HiddenShown => true,
+            Mutant::ShownByFinalLabel => self.flows(last, reader),
+            _ => self.flows(record, reader),
+        }
+    }
+
+    fn counted(&self, shown: usize, all: usize) -> usize {
+        if self.is(Mutant::HiddenCounted) {
+            all
+        } else {
+            shown
+        }
+    }
+
+    fn blanks(&self, field: Field) -> bool {
+        let shown = match self.mutant {
+            Mutant::EndingShown => Field::Ending,
+            Mutant::StepsShown => Field::Steps,
+            Mutant::NextPlaceShown => Field::NextPlace,
+            Mutant::ResultShown => Field::Result,
+            Mutant::LabelShown => Field::Label,
+            Mutant::ClearanceShown => Field::Clearance,
+            _ => return true,
+        };
+        field != shown
+    }
+
+    fn entering(&self, outer: &mut Run, body: &mut Run) {
+        match self.mutant {
+            Mutant::OuterStepsTaken => body.steps_left += outer.steps_left,
+            Mutant::OuterPlacesTaken => body.places.end = outer.places.end,
+            Mutant::PlaceCheckByUse => {
+                // More may have been lent than there was.
+                outer.places.next = outer.places.next.min(outer.places.end);
+                body.places.end = body.places.end.min(outer.places.end);
+            }
+            Mutant::LocalsBlank => body.locals = [Value::ZERO; LOCALS],
+            Mutant::StackShared => body.stack = outer.stack.clone(),
+            Mutant::FramesShared => body.frames = outer.frames.clone(),
+            _ => (),
+        }
+    }
+
+    fn leaving(&self, outer: &mut Run, body: &Run, ending: Ending) {
+        match self.mutant {
+            Mutant::StepsByUse => outer.steps_left += body.steps_left,
+            Mutant::PlacesByUse | Mutant::PlaceCheckByUse => outer.places.next = body.places.next,
+            Mutant::OuterStepsTaken => outer.steps_left = outer.steps_left.min(body.steps_left),
+            Mutant::OuterPlacesTaken => outer.places.next = outer.places.next.max(body.places.next),
+            Mutant::SpentEndsOuter if ending == Ending::Spent => outer.steps_left = 0,
+            Mutant::LabelKept => outer.label = body.label,
+            Mutant::ClearanceKept => outer.clearance = body.clearance,
+            Mutant::LocalsShared => outer.locals = body.locals,
+            _ => (),
+        }
+    }
+
+    fn caught(&self, run: &mut Run, fault: Fault) {
+        let (label, clearance) = self.tries.borrow()[run.depth][run.frames.count()];
+        match self.mutant {
+            Mutant::TryLabel => run.label = label,
+            Mutant::TryClearance => run.clearance = clearance,
+            Mutant::CodeOnTop => {
+                run.stack.drop(2);
+                run.stack.push(Value::Number(fault.number));
+                run.stack.push(Value::Number(fault.code.into()));
+            }
+            _ => (),
+        }
+    }
+
+    fn obeyed(&self, run: &mut Run, opcode: u8, fault: Option<Fault>) {
+        match (self.mutant, fault) {
+            (Mutant::TryLabel | Mutant::TryClearance, None) if opcode == TRY => {
+                self.tries.borrow_mut()[run.depth][run.frames.count() - 1] = (run.label, run.clearance);
+            }
+            (Mutant::LabofRaises, None) if opcode == LABOF => {
+                if let Value::Label(label) = run.stack.operand(0) {
+                    run.label = run.label.join(label);
+                }
+            }
+            (Mutant::OperandsPopped, Some(fault)) if fault != Fault::TOO_FEW_OPERANDS => {
+                run.stack.drop(SHAPES[opcode as usize].pops);
+            }
+            (Mutant::FaultsFree, Some(_)) => run.steps_left += 1,
+            _ => (),
+        }
+    }
+}

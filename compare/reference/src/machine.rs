@@ -1,0 +1,306 @@
+//! The interpreter.
+
+use crate::file::File;
+use crate::label::Label;
+use crate::opcode::*;
+use crate::rules::{Raiser, Rules};
+use crate::run::{Frame, Run};
+use crate::store::Store;
+use crate::value::{Content, Ending, Fault, Kind, Record, Value};
+
+/// Everything that a view can tell of.
+#[derive(Clone, Debug)]
+pub struct Finished {
+    pub ending: Ending,
+    pub label: Label,
+    pub clearance: Label,
+    pub steps_used: u16,
+    pub next_place: u16,
+    pub store: Store,
+}
+
+/// Runs the script of a file that stood up to checks 1 to 7.
+pub fn run<R: Rules>(file: &File, rules: &R) -> Finished {
+    let mut machine = Machine { code: file.code, labels: file.labels(), store: Store::new(file), rules };
+    let mut run = Run::outermost(file);
+    let ending = machine.run(&mut run);
+    Finished {
+        ending,
+        label: run.label,
+        clearance: run.clearance,
+        steps_used: file.steps - run.steps_left,
+        next_place: run.places.next as u16,
+        store: machine.store,
+    }
+}
+
+struct Machine<'a, R> {
+    code: &'a [u8],
+    labels: &'a [Label],
+    store: Store,
+    rules: &'a R,
+}
+
+/// Whether a run goes on after an instruction.
+enum Next {
+    On,
+    /// With the result on top of the stack.
+    End,
+}
+
+impl<R: Rules> Machine<'_, R> {
+    fn run(&mut self, run: &mut Run) -> Ending {
+        while run.steps_left > 0 {
+            run.steps_left -= 1;
+            let opcode = self.code[run.at];
+            match self.obey(run, opcode) {
+                Ok(next) => {
+                    self.rules.obeyed(run, opcode, None);
+                    if let Next::End = next {
+                        return Ending::Result(run.stack.operand(0));
+                    }
+                }
+                Err(fault) => {
+                    self.rules.obeyed(run, opcode, Some(fault));
+                    if !run.catch(fault) {
+                        return Ending::Fault(fault);
+                    }
+                    self.rules.caught(run, fault);
+                }
+            }
+        }
+        Ending::Spent
+    }
+
+    /// One instruction. Until it is sure not to fault it changes nothing, save
+    /// the raise of an OPEN that throws a sealed fault, and where the run is in
+    /// the code: after a fault that is the handler's start, or does not matter.
+    #[inline]
+    fn obey(&mut self, run: &mut Run, opcode: u8) -> Result<Next, Fault> {
+        let shape = &SHAPES[opcode as usize];
+        run.stack.admits(shape)?;
+        let operand = run.at + 1;
+        run.at += shape.length;
+        match opcode {
+            END => return Ok(Next::End),
+            PUSH => run.stack.push(Value::Number(self.word(operand))),
+            LAB => run.stack.push(Value::Label(self.labels[self.byte(operand)])),
+            GET => run.stack.push(run.locals[self.byte(operand)]),
+            SET => run.locals[self.byte(operand)] = run.stack.pop(),
+            POP => run.stack.drop(1),
+            ADD..=SAME => arithmetic(run, opcode)?,
+            JUMP => run.at = self.short(operand).into(),
+            IFZ => self.branch(run, operand)?,
+            CUR => run.stack.push(Value::Label(run.label)),
+            CLR => run.stack.push(Value::Label(run.clearance)),
+            RAISE => self.raise(run)?,
+            LOWER => self.lower(run)?,
+            FLOWS..=MEET => self.compare_labels(run, opcode)?,
+            SEAL => self.make(run, opcode, Kind::Sealed)?,
+            NEW => self.make(run, opcode, Kind::Reference)?,
+            OPEN => self.open(run)?,
+            READ => self.read(run)?,
+            WRITE => self.write(run)?,
+            LABOF => self.label_of(run)?,
+            BLOCK => self.block(run, operand)?,
+            TRY => {
+                run.frames.push(Frame { handler: self.short(operand), height: run.stack.height() as u8 })?
+            }
+            DONE => drop(run.frames.pop().ok_or(Fault::FRAMES)?),
+            THROW => return Err(Fault::thrown(run.stack.number(0)?)),
+            INPUT => self.input(run, operand),
+            _ => unreachable!("check 7 knows every opcode"),
+        }
+        Ok(Next::On)
+    }
+
+    fn branch(&self, run: &mut Run, operand: usize) -> Result<(), Fault> {
+        let zero = run.stack.number(0)? == 0;
+        run.stack.drop(1);
+        if zero {
+            run.at = self.short(operand).into();
+        }
+        Ok(())
+    }
+
+    fn input(&self, run: &mut Run, operand: usize) {
+        let place = self.code[operand];
+        run.stack.push(Value::handle(self.store.get(place).kind, place));
+    }
+
+    fn label_of(&self, run: &mut Run) -> Result<(), Fault> {
+        let label = self.store.get(run.stack.handle()?).label;
+        run.stack.replace(1, Value::Label(label));
+        Ok(())
+    }
+
+    fn raise(&self, run: &mut Run) -> Result<(), Fault> {
+        let by = run.stack.label(0)?;
+        let raised = self.rules.join(run.label, by);
+        self.check_clearance(run, RAISE, raised)?;
+        run.label = self.rules.raised(Raiser::Raise, run.label, by, raised);
+        run.stack.drop(1);
+        Ok(())
+    }
+
+    fn lower(&self, run: &mut Run) -> Result<(), Fault> {
+        let new = run.stack.label(0)?;
+        if !self.rules.may_lower(run.label, new, run.clearance) {
+            return Err(Fault::BAD_LOWER);
+        }
+        run.clearance = new;
+        run.stack.drop(1);
+        Ok(())
+    }
+
+    fn compare_labels(&self, run: &mut Run, opcode: u8) -> Result<(), Fault> {
+        let (deeper, top) = (run.stack.label(1)?, run.stack.label(0)?);
+        let answer = match opcode {
+            FLOWS => Value::Number(self.rules.flows(deeper, top).into()),
+            JOIN => Value::Label(self.rules.join(deeper, top)),
+            _ => Value::Label(self.rules.meet(deeper, top)),
+        };
+        run.stack.replace(2, answer);
+        Ok(())
+    }
+
+    fn make(&mut self, run: &mut Run, opcode: u8, kind: Kind) -> Result<(), Fault> {
+        let label = run.stack.label(0)?;
+        self.check_target(run, opcode, label)?;
+        let place = run.places.take()?;
+        let content = Content::Value(run.stack.operand(1));
+        self.store.put(place, Record { kind, label, content });
+        run.stack.replace(2, Value::handle(kind, place));
+        Ok(())
+    }
+
+    fn open(&mut self, run: &mut Run) -> Result<(), Fault> {
+        let record = *self.store.get(run.stack.sealed()?);
+        let raised = self.rules.join(run.label, record.label);
+        if !self.rules.within_clearance(OPEN, raised, run.clearance) {
+            return Err(self.rules.unopened(record.content));
+        }
+        match record.content {
+            Content::Value(value) => {
+                run.label = self.rules.raised(Raiser::Open, run.label, record.label, raised);
+                run.stack.replace(1, value);
+                Ok(())
+            }
+            Content::Fault(fault) => {
+                run.label = self.rules.raised(Raiser::OpenFault, run.label, record.label, raised);
+                Err(fault)
+            }
+        }
+    }
+
+    fn read(&mut self, run: &mut Run) -> Result<(), Fault> {
+        let record = *self.store.get(run.stack.reference()?);
+        let raised = self.rules.join(run.label, record.label);
+        self.check_clearance(run, READ, raised)?;
+        let Content::Value(value) = record.content else { unreachable!("only outcomes hold faults") };
+        run.label = self.rules.raised(Raiser::Read, run.label, record.label, raised);
+        run.stack.replace(1, value);
+        Ok(())
+    }
+
+    fn write(&mut self, run: &mut Run) -> Result<(), Fault> {
+        let place = run.stack.reference()?;
+        self.check_target(run, WRITE, self.store.get(place).label)?;
+        self.store.get_mut(place).content = Content::Value(run.stack.operand(1));
+        run.stack.drop(2);
+        Ok(())
+    }
+
+    fn block(&mut self, run: &mut Run, operand: usize) -> Result<(), Fault> {
+        let bound = run.stack.label(0)?;
+        let (target, steps) = (self.short(operand), self.short(operand + 2));
+        let places = self.byte(operand + 4);
+        self.check_target(run, BLOCK, bound)?;
+        if !self.rules.may_nest(run.depth) {
+            return Err(Fault::TOO_DEEP);
+        }
+        if !self.rules.may_lend_steps(steps, run.steps_left) {
+            return Err(Fault::NO_STEPS);
+        }
+        if !self.rules.may_lend_places(places, run.places.left()) {
+            return Err(Fault::NO_PLACE);
+        }
+        let place = run.places.next as u8;
+        let mut body = run.body(target.into(), steps, places);
+        run.steps_left -= steps;
+        run.places.next += places + 1;
+        let content = self.run_body(run, &mut body, bound)?;
+        let label = self.rules.outcome_label(bound, body.label);
+        self.store.put(place, Record { kind: Kind::Sealed, label, content });
+        run.stack.replace(1, Value::Sealed(place));
+        Ok(())
+    }
+
+    /// Runs a body that was paid for and gives what the outcome holds.
+    fn run_body(&mut self, outer: &mut Run, body: &mut Run, bound: Label) -> Result<Content, Fault> {
+        let kept = self.rules.kept_store(&self.store);
+        self.rules.entering(outer, body);
+        let ending = self.run(body);
+        self.rules.leaving(outer, body, ending);
+        if let Some(fault) = self.rules.crossing(ending) {
+            return Err(fault);
+        }
+        let within_bound = self.rules.flows(body.label, bound);
+        if let (Some(kept), false) = (kept, within_bound) {
+            self.store = kept;
+        }
+        Ok(self.rules.outcome(ending, within_bound))
+    }
+
+    /// Checks 23 and 24 for an instruction that writes to, or makes, a record.
+    #[inline]
+    fn check_target(&self, run: &Run, opcode: u8, target: Label) -> Result<(), Fault> {
+        if !self.rules.may_target(opcode, run.label, target) {
+            return Err(Fault::ABOVE_TARGET);
+        }
+        self.check_clearance(run, opcode, target)
+    }
+
+    #[inline]
+    fn check_clearance(&self, run: &Run, opcode: u8, label: Label) -> Result<(), Fault> {
+        if !self.rules.within_clearance(opcode, label, run.clearance) {
+            return Err(Fault::ABOVE_CLEARANCE);
+        }
+        Ok(())
+    }
+
+    // Operands in the code; check 7 has seen that they are there.
+
+    #[inline]
+    fn byte(&self, at: usize) -> usize {
+        self.code[at].into()
+    }
+
+    #[inline]
+    fn short(&self, at: usize) -> u16 {
+        u16::from_le_bytes(self.bytes(at))
+    }
+
+    #[inline]
+    fn word(&self, at: usize) -> u32 {
+        u32::from_le_bytes(self.bytes(at))
+    }
+
+    #[inline]
+    fn bytes<const N: usize>(&self, at: usize) -> [u8; N] {
+        *self.code[at..].first_chunk().expect("no instruction is cut")
+    }
+}
+
+#[inline]
+fn arithmetic(run: &mut Run, opcode: u8) -> Result<(), Fault> {
+    let (deeper, top) = (run.stack.number(1)?, run.stack.number(0)?);
+    let answer = match opcode {
+        ADD => deeper.wrapping_add(top),
+        SUB => deeper.wrapping_sub(top),
+        LESS => (deeper < top).into(),
+        _ => (deeper == top).into(),
+    };
+    run.stack.replace(2, Value::Number(answer));
+    Ok(())
+}

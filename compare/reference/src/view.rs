@@ -1,0 +1,93 @@
+//! The view: what a reading label is shown of a finished run.
+
+use crate::file::Refusal;
+use crate::label::Label;
+use crate::limits::{shown, view};
+use crate::machine::Finished;
+use crate::rules::{Field, Rules};
+use crate::value::{Content, Ending, Record, Value};
+
+/// Writes the view into the front of `buffer` and gives its length. A buffer
+/// that is too short is left alone.
+pub fn write<R: Rules>(
+    finished: &Finished,
+    reader: Label,
+    buffer: &mut [u8],
+    rules: &R,
+) -> Result<usize, Refusal> {
+    let shows = |record: &Record| rules.shows(record.label, finished.label, reader);
+    let (mut all, mut count) = (0, 0);
+    for (_, record) in finished.store.iter() {
+        all += 1;
+        count += usize::from(shows(record));
+    }
+    let length = view::RECORDS + shown::LENGTH * count;
+    let view = buffer.get_mut(..length).ok_or(Refusal::Buffer)?;
+    let (head, records) = view.split_at_mut(view::RECORDS);
+    write_run(finished, reader, head, rules);
+    put(head, view::SHOWN, &(rules.counted(count, all) as u16).to_le_bytes());
+    put(head, view::RECORDS_AT, &(view::RECORDS as u16).to_le_bytes());
+    put(head, view::LENGTH, &(length as u16).to_le_bytes());
+    let shown_records = finished.store.iter().filter(|(_, record)| shows(record));
+    for (part, (place, record)) in records.chunks_exact_mut(shown::LENGTH).zip(shown_records) {
+        part[shown::PLACE] = place;
+        part[shown::KIND] = record.kind as u8;
+        put(part, shown::LABEL, &label_bytes(record.label));
+        put(part, shown::VALUE, &content_bytes(record.content));
+    }
+    Ok(length)
+}
+
+/// The parts that tell of the run as a whole: 0 unless its final label flows to
+/// the reader.
+fn write_run<R: Rules>(finished: &Finished, reader: Label, head: &mut [u8], rules: &R) {
+    let hidden = !rules.flows(finished.label, reader);
+    let (ending, result) = match finished.ending {
+        Ending::Result(value) => (1u16, content_bytes(Content::Value(value))),
+        Ending::Fault(fault) => (2, content_bytes(Content::Fault(fault))),
+        Ending::Spent => (3, [0; VALUE_LENGTH]),
+    };
+    let mut part = |field: Field, at: usize, bytes: &[u8]| {
+        if hidden && rules.blanks(field) {
+            head[at..at + bytes.len()].fill(0);
+        } else {
+            put(head, at, bytes);
+        }
+    };
+    part(Field::Ending, view::ENDING, &ending.to_le_bytes());
+    part(Field::Steps, view::STEPS, &finished.steps_used.to_le_bytes());
+    part(Field::NextPlace, view::NEXT_PLACE, &finished.next_place.to_le_bytes());
+    part(Field::Result, view::RESULT, &result);
+    part(Field::Label, view::LABEL, &label_bytes(finished.label));
+    part(Field::Clearance, view::CLEARANCE, &label_bytes(finished.clearance));
+}
+
+const VALUE_LENGTH: usize = view::LABEL - view::RESULT;
+const LABEL_LENGTH: usize = view::CLEARANCE - view::LABEL;
+
+fn content_bytes(content: Content) -> [u8; VALUE_LENGTH] {
+    let (kind, first, second) = match content {
+        Content::Value(Value::Number(number)) => (1, number.into(), 0),
+        Content::Value(Value::Label(label)) => (2, label.secrecy, label.integrity),
+        Content::Value(Value::Sealed(place)) => (3, place.into(), 0),
+        Content::Value(Value::Reference(place)) => (4, place.into(), 0),
+        Content::Fault(fault) => (5, fault.code.into(), fault.number.into()),
+    };
+    let mut bytes = [0; VALUE_LENGTH];
+    bytes[0] = kind;
+    put(&mut bytes, 2, &first.to_le_bytes());
+    put(&mut bytes, 10, &second.to_le_bytes());
+    bytes
+}
+
+fn label_bytes(label: Label) -> [u8; LABEL_LENGTH] {
+    let mut bytes = [0; LABEL_LENGTH];
+    put(&mut bytes, 0, &label.secrecy.to_le_bytes());
+    put(&mut bytes, 8, &label.integrity.to_le_bytes());
+    bytes
+}
+
+#[inline]
+fn put(part: &mut [u8], at: usize, bytes: &[u8]) {
+    part[at..at + bytes.len()].copy_from_slice(bytes);
+}
