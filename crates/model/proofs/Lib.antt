@@ -10,3 +10,4 @@ pub mod TwoRuns
 pub mod Start
 pub mod Bounds
 pub mod Landing
+pub mod Reached

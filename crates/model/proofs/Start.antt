@@ -125,7 +125,7 @@ start-fresh xs l c s k h p i = (
 )
 
 module _ (P : Program) (Low : Label → Bool) (xs ys : List Input) (same : AlikeInputs Low xs ys) where
-  start-equivalent : P .inputs ≡ handles 0 xs → LowEquivalent P Low (startStore (inputSlots xs)) (startStore (inputSlots ys))
+  pub start-equivalent : P .inputs ≡ handles 0 xs → LowEquivalent P Low (startStore (inputSlots xs)) (startStore (inputSlots ys))
   unfolding startStore
   start-equivalent ins =
       record {
