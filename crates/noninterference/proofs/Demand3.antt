@@ -5,7 +5,7 @@ use mathlib.Core.List.{List, [], _∷_}
 use mathlib.Core.Path.{_≡_, refl, sym, ap, ap₂, _∙_, subst}
 use Prim.Native.Nat.{ℕ, _≤_}
 use native.Mathlib.Omega.{arith}
-use lib.Dec.{T, leb, ltb, eqb, eqb→eq}
+use lib.Dec.{leb, ltb, eqb}
 use lib.ListN.{length}
 use lib.Seq.{ext-getD}
 use Rattle.labels.specs.Order.{flows, join, meet}
@@ -28,26 +28,19 @@ use Rattle.view.specs.Layout.{view}
 use Rattle.view.specs.Reading.{Reading, fileView, refuse, show, reading}
 use Rattle.view.proofs.SameView.{same-view}
 use Rattle.noninterference.specs.Alike.{legible, Alike, SameReads, both-refused, both-viewed}
-use Rattle.noninterference.proofs.Sections.{legible-each, places-fit, inputs-count, same-header, same-labels, same-label, same-code, alike-inputs}
+use Rattle.noninterference.proofs.Checks.{from-T, to-T, legible-each, places-fit}
+use Rattle.noninterference.proofs.Sections.{inputs-count, same-header, same-labels, same-label, same-code, alike-inputs}
 
 -- ── the labels that a reader sees ──
-
--- T b is a record of b's being true
-holds : (b : Bool) → T b → b ≡ true
-holds true t = refl
-holds false t = absurd t
-
-of-T : (b : Bool) → b ≡ true → T b
-of-T b e = subst T (sym e) tt
 
 -- The labels that flow to a reading label are closed downward, under the order of labels.
 readable : (bs : List ℕ) (m : Label) → LowSet (fileProgram bs) (λ l. flows l m)
 unfolding fileProgram
 readable bs m =
     record {
-      down = λ k l e f. holds (flows k m) (labels .le-trans k l m (of-T (flows k l) e) (of-T (flows l m) f));
-      join-left = λ k l. holds (flows k (join k l)) (labels .le-left k l);
-      join-right = λ k l. holds (flows l (join k l)) (labels .le-right k l);
+      down = λ k l e f. from-T (flows k m) (labels .le-trans k l m (to-T (flows k l) e) (to-T (flows l m) f));
+      join-left = λ k l. from-T (flows k (join k l)) (labels .le-left k l);
+      join-right = λ k l. from-T (flows l (join k l)) (labels .le-right k l);
     }
 
 -- ── two files that none of 1 to 4, 6 and 8 stops ──
