@@ -2,24 +2,29 @@
 -- instruction that stands next is one of the code's, and the place that it asks for holds a record.
 use mathlib.Core.Bool.{true}
 use mathlib.Core.List.{List, [], _∷_}
-use mathlib.Core.Path.{_≡_, refl, subst}
+use mathlib.Core.Path.{_≡_, refl, sym, _∙_, subst}
 use Prim.Native.Nat.{ℕ}
+use native.Mathlib.Omega.{arith}
+use lib.ListN.{length, length-append, length-replicate}
 use Rattle.labels.specs.Order.{flows, join}
 use Rattle.labels.proofs.Laws.{labels}
 use Rattle.model.specs.State.{Control, Account, Store}
+use Rattle.model.specs.Decoding.{u16}
 use Rattle.model.specs.Inputs.{Input, inputSlots}
 use Rattle.model.specs.Operands.{Request, asks}
-use Rattle.model.specs.Running.{startControl, startAccount, startStore}
-use Rattle.model.proofs.Kept.{LowSet, Fresh}
+use Rattle.model.specs.Running.{runs, startControl, startAccount, startStore}
+use Rattle.model.proofs.Kept.{LowSet, Fresh, run-kept}
 use Rattle.model.proofs.LowEquivalence.{Twin}
 use Rattle.model.proofs.Landing.{Lands}
-use Rattle.model.proofs.Start.{AlikeInputs, numbers-point, start-fresh, start-equivalent}
+use Rattle.model.proofs.Start.{AlikeInputs, length-slots, numbers-point, start-fresh, start-equivalent}
 use Rattle.model.proofs.Reached.{Reached, Holds, nextPlan, all, Safe, reached-safe, safe-holds}
 use Rattle.script_file.specs.Sections.{header, recordBytes, codeBytes, labelAt}
 use Rattle.script_file.specs.Sweep.{among, starts, instrOk, codeOk}
 use Rattle.script_file.specs.Checks.{passes7, refusal}
-use Rattle.script_file.specs.Program.{fileInputs, fileProgram, fileAccount}
-use Rattle.noninterference.proofs.Checks.{from-T, refusal-each, places-fit, code-there}
+use Rattle.script_file.specs.Program.{fileInputs, fileProgram, fileAccount, fileRun}
+use Rattle.view.specs.Reading.{fileView}
+use Rattle.view.proofs.Length.{length-field-places}
+use Rattle.noninterference.proofs.Checks.{from-T, refusal-each, inputs-few, places-fit, code-there}
 use Rattle.noninterference.proofs.Sections.{inputs-count}
 use Rattle.noninterference.proofs.Starts.{start-ok, lands, start-zero}
 
@@ -85,3 +90,15 @@ module _ (bs : List ℕ) (ok : refusal bs ≡ 0) where
         checked = start-ok (header bs .labels .count) (header bs .records .count) (codeBytes bs) code-ok (c .pc) (s .at-start);
         record-there = safe-holds (fileProgram bs) (every-label bs) Starts goes-to-starts c a σ s;
       }
+
+  -- the run of a file keeps the 256 places of the store
+  store-places : length (fileRun bs .store) ≡ 256
+  unfolding fileRun runs start startStore fileInputs
+  store-places =
+      sym (run-kept (fileProgram bs) all (every-label bs) (fileAccount bs .steps) startControl (fileAccount bs) start (start-safe .fresh) .sized)
+      ∙ simp (length-append, length-replicate, length-slots, inputs-count) (omega (arith, inputs-few bs (refusal-each bs ok .1 .0)))
+
+  -- "A view is as many bytes as its length field says."
+  pub view-length : (i : ℕ) → u16 (fileView bs i) 10 ≡ length (fileView bs i)
+  unfolding fileView
+  view-length i = length-field-places (λ l. flows l (labelAt bs i)) (header bs .steps) (fileRun bs) (omega (arith, store-places))

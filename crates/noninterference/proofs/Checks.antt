@@ -59,6 +59,10 @@ unfolding passes3 offsetsOk
 code-behind bs e =
     eqb-eq (header bs .code .offset) (header bs .records .offset + 6 * header bs .records .count) (every-each _ e .1 .1 .0)
 
+pub inputs-few : (bs : List ℕ) → passes2 bs ≡ true → header bs .records .count ≤ 64
+unfolding passes2 countsOk
+inputs-few bs e = leb-le (header bs .records .count) 64 (every-each _ e .1 .1 .0)
+
 pub places-fit : (bs : List ℕ) → passes2 bs ≡ true → header bs .places ≤ 256
 unfolding passes2 countsOk
 places-fit bs e = leb-le (header bs .places) 256 (every-each _ e .1 .1 .1 .1 .1 .1 .1 .0)

@@ -1,2 +1,3 @@
 -- Theorems on the definition of the view.
 pub mod SameView
+pub mod Length
