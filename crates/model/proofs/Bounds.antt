@@ -1,16 +1,16 @@
 -- Steps and places: what each instruction costs, exactly, and that a run keeps within its steps and its allotment.
 use mathlib.Core.Bool.{Bool, true, false, cond, _&&_}
 use mathlib.Core.List.{List, [], _∷_}
-use mathlib.Core.Path.{_≡_, refl, sym, _∙_}
-use Prim.Native.Nat.{ℕ, suc, _+_, _-_, _≤_}
+use mathlib.Core.Path.{_≡_, refl, _∙_}
+use Prim.Native.Nat.{ℕ, suc, _+_, _≤_}
 use native.Mathlib.Nat.{le-refl}
 use native.Mathlib.Omega.{arith}
 use lib.Dec.{leb, ltb}
 use Rattle.labels.specs.declared.Label.{Label}
-use Rattle.model.specs.State.{Control, Account, Store, Program, Outcome, Runner, at, jump, withSteps}
+use Rattle.model.specs.State.{Control, Account, Store, Program, Runner, at, jump, withSteps}
 use Rattle.model.specs.Operands.{Request, none, ends, throws, raises, lowers, labels, opens, makes, writes, blocks, Plan, faults, asks, plan}
-use Rattle.model.specs.Effects.{Next, go, stop, failTo, fail, checkTarget, raised, yield, openSlot, labelSlot, writeSlot, act}
-use Rattle.model.specs.Running.{perform, step, resume, run, runs}
+use Rattle.model.specs.Effects.{Next, failTo, fail, checkTarget, raised, yield, openSlot, labelSlot, writeSlot, act}
+use Rattle.model.specs.Running.{perform, step, runs}
 use Rattle.model.specs.declared.Datum.{Datum}
 use Rattle.model.specs.declared.Contents.{Contents}
 use Rattle.model.specs.declared.Contents.the-variants.{Value as Holds, Fault}
@@ -18,7 +18,7 @@ use Rattle.model.specs.declared.Slot.{Slot}
 use Rattle.model.specs.declared.Slot.the-variants.{Empty, Full}
 use Rattle.model.specs.declared.Frame.{Frame}
 use Rattle.model.proofs.Tests.{leb-le, cond-one}
-use Rattle.model.proofs.Effects.{accountOf, Effects, Runs, run-of}
+use Rattle.model.proofs.Effects.{accountOf, Runs, run-of}
 
 -- ── the statement ──
 

@@ -1,15 +1,15 @@
 -- What an instruction can do to account and store: six effects. What holds of each holds of every instruction, and what
 -- goes through each goes through a run. Theorems on one run are proved by these two principles, once for each effect.
-use mathlib.Core.Bool.{Bool, true, cond, _&&_}
+use mathlib.Core.Bool.{true, _&&_}
 use mathlib.Core.List.{List, [], _∷_}
 use mathlib.Core.Path.{_≡_, refl}
 use Prim.Native.Nat.{ℕ, zero, suc, _+_, _-_, _≤_, _<_}
 use lib.Dec.{leb, ltb}
 use lib.ListN.{set}
 use Rattle.labels.specs.declared.Label.{Label}
-use Rattle.model.specs.State.{Control, Account, Store, Program, Outcome, Runner, at, jump, withLabel, withClearance, withSteps, withNext}
+use Rattle.model.specs.State.{Control, Account, Store, Program, Outcome, Runner, at, jump, withClearance, withSteps, withNext}
 use Rattle.model.specs.Operands.{Request, none, ends, throws, raises, lowers, labels, opens, makes, writes, blocks, Plan, faults, asks, plan}
-use Rattle.model.specs.Effects.{Next, go, stop, failTo, fail, checkTarget, checkRaise, raised, holding, yield, openSlot, labelSlot, writeSlot, bodyControl, bodyAccount, act}
+use Rattle.model.specs.Effects.{Next, go, stop, failTo, fail, checkTarget, raised, holding, yield, openSlot, labelSlot, writeSlot, bodyControl, bodyAccount, act}
 use Rattle.model.specs.Running.{perform, step, resume, pay, run}
 use Rattle.model.specs.declared.Kind.{Kind}
 use Rattle.model.specs.declared.Kind.the-variants.{Sealed}

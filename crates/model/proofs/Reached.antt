@@ -1,24 +1,23 @@
 -- Every state that a run comes to, in itself or in the body of a block: the code goes on only where N holds, and no handle is
 -- to an empty place. So the definition's totals, an END past the code and fault 33 of an empty place, are never met.
-use mathlib.Core.Bool.{Bool, true, false, true≢false}
-use mathlib.Core.List.{List, [], _∷_}
+use mathlib.Core.Bool.{Bool, true, true≢false}
 use mathlib.Core.Logic.{_≢_}
-use mathlib.Core.Path.{_≡_, refl, sym, ap, _∙_, subst}
+use mathlib.Core.Path.{_≡_, ap, subst}
 use Prim.Native.Nat.{ℕ, suc, _+_, _≤_}
 use native.Mathlib.Omega.{arith}
 use Rattle.labels.specs.declared.Label.{Label}
-use Rattle.model.specs.State.{Control, Account, Store, Program, Runner, at, jump, withSteps}
-use Rattle.model.specs.Operands.{Request, none, ends, throws, raises, lowers, labels, opens, makes, writes, blocks, Plan, faults, asks, plan}
+use Rattle.model.specs.State.{Control, Account, Store, Program, at, jump, withSteps}
+use Rattle.model.specs.Operands.{Request, none, ends, throws, raises, lowers, labels, opens, makes, writes, blocks, Plan, asks, plan}
 use Rattle.model.specs.Effects.{Next, go, stop, bodyControl, bodyAccount}
 use Rattle.model.specs.Running.{step, runs}
-use Rattle.model.specs.declared.Slot.{Slot}
 use Rattle.model.specs.declared.Slot.the-variants.{Empty}
 use Rattle.model.proofs.Effects.{accountOf, storeOf}
 use Rattle.model.proofs.Kept.{LowSet, shell, Fresh, RunnerKept, run-kept, step-kept}
 use Rattle.model.proofs.Plans.{Reach, InRequest, InPlan, plan-in}
 use Rattle.model.proofs.LowEquivalence.{Twin, LowEquivalent, LowNext, goes, stops, parts}
-use Rattle.model.proofs.TwoRuns.{two-runs, step-two}
-use Rattle.model.proofs.Landing.{Lands, Handlers, GoesOn, PlanLands, NextLands, plan-lands, step-lands}
+use Rattle.model.proofs.TwoSteps.{step-two}
+use Rattle.model.proofs.TwoRuns.{two-runs}
+use Rattle.model.proofs.Landing.{Lands, Handlers, PlanLands, NextLands, plan-lands, step-lands}
 
 -- ── the statement ──
 

@@ -7,20 +7,19 @@ use Prim.Native.Nat.{ℕ, zero, suc, _+_, _-_, _≤_, _<_}
 use native.Mathlib.Omega.{arith}
 use lib.ListN.{length, replicate, length-append, length-replicate}
 use Rattle.labels.specs.declared.Label.{Label}
-use Rattle.model.specs.State.{Account, Store, Program, Outcome, at, value, number}
+use Rattle.model.specs.State.{Store, Program, at, value, number}
 use Rattle.model.specs.Effects.{holding}
 use Rattle.model.specs.Inputs.{Input, handles, inputSlots}
 use Rattle.model.specs.Running.{runs, startControl, startAccount, startStore}
 use Rattle.model.specs.declared.Kind.{Kind}
 use Rattle.model.specs.declared.Datum.the-variants.{Number, Handle}
 use Rattle.model.specs.declared.Value.{Value}
-use Rattle.model.specs.declared.Contents.{Contents}
 use Rattle.model.specs.declared.Contents.the-variants.{Value as Holds}
 use Rattle.model.specs.declared.Slot.{Slot}
 use Rattle.model.specs.declared.Slot.the-variants.{Empty}
 use Rattle.model.proofs.Kept.{LowSet, visible, shell, Fresh, unseen}
 use Rattle.model.proofs.Plans.{All}
-use Rattle.model.proofs.LowEquivalence.{Twin, SharedSlot, LowEquivalent, LowOutcomes, shell-full, shell-alike, shared-visible}
+use Rattle.model.proofs.LowEquivalence.{Twin, SharedSlot, LowEquivalent, LowOutcomes, shell-full, shared-visible}
 use Rattle.model.proofs.TwoRuns.{two-runs}
 
 -- ── the statement ──

@@ -1,9 +1,9 @@
 -- Demand 3, whole: one claim about two reads of two files. Any code, any numbers of steps and places, any buffers of one
 -- length; what is known of the order of labels is proved, not assumed.
-use mathlib.Core.Bool.{Bool, true, false, cond, true≢false}
-use mathlib.Core.List.{List, [], _∷_}
-use mathlib.Core.Path.{_≡_, refl, sym, ap, ap₂, _∙_, subst}
-use Prim.Native.Nat.{ℕ, _≤_}
+use mathlib.Core.Bool.{Bool, true, false, true≢false}
+use mathlib.Core.List.{List}
+use mathlib.Core.Path.{_≡_, refl, sym, ap, _∙_, subst}
+use Prim.Native.Nat.{ℕ}
 use native.Mathlib.Omega.{arith}
 use lib.Dec.{leb, ltb, eqb}
 use lib.ListN.{length}
@@ -11,7 +11,6 @@ use lib.Seq.{ext-getD}
 use Rattle.labels.specs.Order.{flows, join, meet}
 use Rattle.labels.specs.declared.Label.{Label}
 use Rattle.labels.proofs.Laws.{labels}
-use Rattle.model.specs.State.{Program}
 use Rattle.model.specs.Decoding.{fetch, after}
 use Rattle.model.specs.Inputs.{Input, handles, inputSlots}
 use Rattle.model.specs.Running.{runs, startControl, startAccount, startStore}
@@ -21,11 +20,10 @@ use Rattle.model.proofs.Kept.{LowSet}
 use Rattle.model.proofs.Start.{AlikeInputs, alike-handles, two-starts}
 use Rattle.script_file.specs.declared.Header.{Header}
 use Rattle.script_file.specs.Sections.{header, codeBytes, labelAt}
-use Rattle.script_file.specs.Sweep.{codeOk}
-use Rattle.script_file.specs.Checks.{sizeOk, countsOk, offsetsOk, present, passes1, passes2, passes3, passes4, passes5, passes6, passes7, lowest, refusal}
+use Rattle.script_file.specs.Checks.{passes1, passes2, passes3, passes4, passes5, passes7, refusal}
 use Rattle.script_file.specs.Program.{fileInputs, fileProgram, fileAccount, fileRun}
 use Rattle.view.specs.Layout.{view}
-use Rattle.view.specs.Reading.{Reading, fileView, refuse, show, reading}
+use Rattle.view.specs.Reading.{fileView, show, reading}
 use Rattle.view.proofs.SameView.{same-view}
 use Rattle.noninterference.specs.Alike.{legible, Alike, SameReads, both-refused, both-viewed}
 use Rattle.noninterference.proofs.Checks.{from-T, to-T, legible-each, places-fit}

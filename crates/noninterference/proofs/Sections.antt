@@ -1,6 +1,6 @@
 -- Two alike files that none of 1 to 4, 6 and 8 stops: one header, the same labels and code, and alike input records.
 use mathlib.Core.Bool.{true, false, true≢false}
-use mathlib.Core.List.{List, [], _∷_}
+use mathlib.Core.List.{List}
 use mathlib.Core.Option.{Option}
 use mathlib.Core.Path.{_≡_, refl, sym, ap, _∙_, subst, subst₂}
 use Prim.Native.Nat.{ℕ, zero, suc, _+_, _-_, _*_, _≤_, _<_}
@@ -11,7 +11,7 @@ use lib.Seq.{ext-getD, getD-take, getD-drop}
 use Rattle.labels.specs.Order.{flows}
 use Rattle.labels.specs.declared.Label.{Label}
 use Rattle.model.specs.Decoding.{byte, u16, u32}
-use Rattle.model.specs.Inputs.{Input, kindOf, inputs}
+use Rattle.model.specs.Inputs.{kindOf, inputs}
 use Rattle.model.proofs.Start.{AlikeInputs}
 use Rattle.script_file.specs.declared.Header.{Header}
 use Rattle.script_file.specs.Sections.{header, labelBytes, recordBytes, codeBytes, readLabels, fileLabels, orNone, labelAt}

@@ -1,10 +1,10 @@
 -- "A view is as many bytes as its length field says": 62 and 36 for each record shown.
-use mathlib.Core.Bool.{Bool, true, false, cond}
+use mathlib.Core.Bool.{Bool}
 use mathlib.Core.List.{List, [], _∷_, _++_, append-assoc}
 use mathlib.Core.Path.{_≡_, refl, sym, ap, ap₂, _∙_}
 use Prim.Native.Nat.{ℕ, zero, suc, _+_, _*_, _/_, _%_, _≤_, _<_}
 use native.Mathlib.Omega.{arith}
-use lib.ListN.{length, length-append, length-replicate}
+use lib.ListN.{length, length-append}
 use lib.Seq.{getD-append-add}
 use Rattle.labels.specs.declared.Label.{Label}
 use Rattle.model.specs.State.{Account, Store, Outcome}

@@ -7,7 +7,6 @@ use native.Mathlib.Omega.{arith}
 use lib.ListN.{length}
 use Rattle.labels.specs.declared.Label.{Label}
 use Rattle.model.specs.State.{Account, Store, Program, Outcome, at}
-use Rattle.model.specs.declared.Record.{Record}
 use Rattle.model.specs.declared.Slot.{Slot}
 use Rattle.model.specs.declared.Slot.the-variants.{Empty, Full}
 use Rattle.model.specs.declared.Ending.{Ending}
