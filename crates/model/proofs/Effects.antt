@@ -95,7 +95,8 @@ module _ (G : Account → Store → Type 0) where
     act-of r (raises l) = cond-one (Of G) (P .flows (P .join (a .label) l) (a .clearance)) (λ e. E .raises-to l e) (λ _. fails 24 0)
     act-of r (lowers l) =
         cond-one (Of G) (P .flows (a .label) l && P .flows l (a .clearance))
-        (λ e. E .lowers-to l (both-left (P .flows (a .label) l) (P .flows l (a .clearance)) e) (both-right (P .flows (a .label) l) (P .flows l (a .clearance)) e))
+        (λ e. E .lowers-to l (both-left (P .flows (a .label) l) (P .flows l (a .clearance)) e)
+        (both-right (P .flows (a .label) l) (P .flows l (a .clearance)) e))
         (λ _. fails 25 0)
     act-of r (labels p) = label-of r (at σ p)
     act-of r (opens p) = open-of r (at σ p)

@@ -151,7 +151,8 @@ module _ (P : Program) (D : LowSet P all) (N : ℕ → Type 0) (sound : (pc : �
       safe-body c r (withSteps n a) σ l t m k (safe-paid c a σ n (reached-safe c₀ a₀ σ₀ s c a σ h)) f le
 
   -- the request of the next instruction finds a record where it looks for one
-  pub safe-holds : (c : Control) (a : Account) (σ : Store) → Safe c a σ → (b : Account) (r : Control) (q : Request) → nextPlan P c b ≡ asks r q → Holds σ q
+  pub safe-holds : (c : Control) (a : Account) (σ : Store) → Safe c a σ → (b : Account) (r : Control) (q : Request)
+      → nextPlan P c b ≡ asks r q → Holds σ q
   safe-holds c a σ s b r q e =
       holds-in σ q
       (subst (InPlan (Twin σ σ)) e (plan-in (Twin σ σ) P b (s .closed .inputs) (behind P c) (safe-behind c a σ s) (P .fetch (c .pc))) .1)

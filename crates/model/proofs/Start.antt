@@ -116,11 +116,12 @@ pub numbers-point : (T : ℕ → Type 0) (n : ℕ) → All T (replicate n (numbe
 numbers-point T zero = tt
 numbers-point T (suc n) = (tt, numbers-point T n)
 
-pub start-fresh : (xs : List Input) (l c : Label) (s k : ℕ) → k ≤ 256 → Fresh (startAccount l c s (length xs) k) (startStore (inputSlots xs))
+pub start-fresh : (xs : List Input) (l c : Label) (s n k : ℕ) → n ≡ length xs → k ≤ 256
+    → Fresh (startAccount l c s n k) (startStore (inputSlots xs))
 unfolding startStore
-start-fresh xs l c s k h p i = (
+start-fresh xs l c s n k e h p i = (
   simp (length-append, length-replicate, length-slots) (omega arith),
-  rest-empty xs (256 - length (inputSlots xs)) p (i .0),
+  rest-empty xs (256 - length (inputSlots xs)) p (omega (arith, i .0)),
 )
 
 module _ (P : Program) (Low : Label → Bool) (xs ys : List Input) (same : AlikeInputs Low xs ys) where
@@ -146,14 +147,11 @@ module _ (P : Program) (Low : Label → Bool) (xs ys : List Input) (same : Alike
       pair : (p : ℕ) → (visible Low (at σ p) ≡ visible Low (at τ p)) × (shell (at σ p) ≡ shell (at τ p))
       pair p = rw counts (alike-places Low (256 - length (inputSlots xs)) xs ys same p)
 
-  -- Two runs from input records that differ only in numbers under labels that are not in the set
-  pub two-starts : LowSet P Low → P .inputs ≡ handles 0 xs → (l c : Label) (s k : ℕ) → k ≤ 256
-      → LowOutcomes P Low (runs P startControl (startAccount l c s (length xs) k) (startStore (inputSlots xs)))
-      (runs P startControl (startAccount l c s (length ys) k) (startStore (inputSlots ys)))
-  two-starts D ins l c s k h =
-      subst (λ (n : ℕ). LowOutcomes P Low (runs P startControl (startAccount l c s (length xs) k) (startStore (inputSlots xs)))
-      (runs P startControl (startAccount l c s n k) (startStore (inputSlots ys)))) (alike-length Low xs ys same)
-      (two-runs P Low D startControl (startAccount l c s (length xs) k) (startStore (inputSlots xs)) (startStore (inputSlots ys))
-      (start-fresh xs l c s k h)
-      (subst (λ (n : ℕ). Fresh (startAccount l c s n k) (startStore (inputSlots ys))) (sym (alike-length Low xs ys same)) (start-fresh ys l c s k h))
-      (record { stack = tt; locals = numbers-point (Twin (startStore (inputSlots xs)) (startStore (inputSlots ys))) 16 }) (start-equivalent ins))
+  -- Two runs from n input records that differ only in numbers under labels that are not in the set
+  pub two-starts : LowSet P Low → P .inputs ≡ handles 0 xs → (l c : Label) (s n k : ℕ) → n ≡ length xs → k ≤ 256
+      → LowOutcomes P Low (runs P startControl (startAccount l c s n k) (startStore (inputSlots xs)))
+      (runs P startControl (startAccount l c s n k) (startStore (inputSlots ys)))
+  two-starts D ins l c s n k e h =
+      two-runs P Low D startControl (startAccount l c s n k) (startStore (inputSlots xs)) (startStore (inputSlots ys))
+      (start-fresh xs l c s n k e h) (start-fresh ys l c s n k (e ∙ alike-length Low xs ys same) h)
+      (record { stack = tt; locals = numbers-point (Twin (startStore (inputSlots xs)) (startStore (inputSlots ys))) 16 }) (start-equivalent ins)

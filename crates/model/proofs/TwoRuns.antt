@@ -4,7 +4,6 @@ use mathlib.Core.Bool.{Bool}
 use Prim.Native.Nat.{ℕ, zero, suc}
 use Rattle.labels.specs.declared.Label.{Label}
 use Rattle.model.specs.State.{Control, Account, Store, Program, Outcome, Runner, withSteps}
-use Rattle.model.specs.Operands.{ends}
 use Rattle.model.specs.Effects.{Next}
 use Rattle.model.specs.Running.{step, resume, pay, run, runs}
 use Rattle.model.proofs.Effects.{accountOf, storeOf}
@@ -14,8 +13,8 @@ use Rattle.model.proofs.LowEquivalence.{Twin, LowEquivalent, together, 
 use Rattle.model.proofs.TwoSteps.{RunnerTwo, step-two}
 
 module _ (P : Program) (Low : Label → Bool) (D : LowSet P Low) where
-  resume-two : (R : Runner) → RunnerKept P Low D R → RunnerTwo P Low D R → (x y : Next) → Fresh (accountOf x) (storeOf x) → Fresh (accountOf y) (storeOf y)
-      → LowNext P Low x y → LowOutcomes P Low (resume R x) (resume R y)
+  resume-two : (R : Runner) → RunnerKept P Low D R → RunnerTwo P Low D R → (x y : Next) → Fresh (accountOf x) (storeOf x)
+      → Fresh (accountOf y) (storeOf y) → LowNext P Low x y → LowOutcomes P Low (resume R x) (resume R y)
   unfolding resume
   resume-two R RK RT x y fx fy (goes {c = c} {a = a} {σ = σ} {τ = τ} g s) = RT c a σ τ fx fy g s
   resume-two R RK RT x y fx fy (stops o s) = record { stores = s; ends = together o }

@@ -209,7 +209,8 @@ module _ (P : Program) (Low : Label → Bool) (D : LowSet P Low) where
         (shared-visible P Low σ τ h l (Holds d) o) (withNext (a .next + 1) a)
 
     block-two : (b : Label) (t n k : ℕ) → a .next + 1 + k ≤ a .limit
-        → LowNext P Low (sealOutcome P r a b n k (R (bodyControl t r) (bodyAccount n k a) σ)) (sealOutcome P r a b n k (R (bodyControl t r) (bodyAccount n k a) τ))
+        → LowNext P Low (sealOutcome P r a b n k (R (bodyControl t r) (bodyAccount n k a) σ))
+        (sealOutcome P r a b n k (R (bodyControl t r) (bodyAccount n k a) τ))
     block-two b t n k le =
         put-two (o .store) (q .store)
         (grows-kept P Low (bodyAccount n k a) (bodyAccount n k a) (o .account) (q .account) σ τ (o .store) (q .store) bσ bτ ko kq)
@@ -260,7 +261,9 @@ module _ (P : Program) (Low : Label → Bool) (D : LowSet P Low) where
         target-two b _ _
         (cond-two (LowNext P Low) (ltb (a .depth) 8)
         (λ _. cond-two (LowNext P Low) (leb n (a .steps))
-        (λ _. cond-two (LowNext P Low) (leb (a .next + 1 + k) (a .limit)) (λ e. block-two b t n k (leb-le (a .next + 1 + k) (a .limit) e)) (λ _. fails 26 0))
+        (λ _. cond-two (LowNext P Low) (leb (a .next + 1 + k) (a .limit))
+        (λ e. block-two b t n k (leb-le (a .next + 1 + k) (a .limit) e))
+        (λ _. fails 26 0))
         (λ _. fails 27 0))
         (λ _. fails 28 0))
 

@@ -2,7 +2,7 @@
 -- instruction that stands next is one of the code's, and the place that it asks for holds a record.
 use mathlib.Core.Bool.{true}
 use mathlib.Core.List.{List, [], _∷_}
-use mathlib.Core.Path.{_≡_, refl, sym, _∙_, subst}
+use mathlib.Core.Path.{_≡_, refl, sym, _∙_}
 use Prim.Native.Nat.{ℕ}
 use native.Mathlib.Omega.{arith}
 use lib.ListN.{length, length-append, length-replicate}
@@ -12,8 +12,8 @@ use Rattle.model.specs.State.{Control, Account, Store}
 use Rattle.model.specs.Decoding.{u16}
 use Rattle.model.specs.Inputs.{Input, inputSlots}
 use Rattle.model.specs.Operands.{Request, asks}
-use Rattle.model.specs.Running.{runs, startControl, startAccount, startStore}
-use Rattle.model.proofs.Kept.{LowSet, Fresh, run-kept}
+use Rattle.model.specs.Running.{runs, startControl, startStore}
+use Rattle.model.proofs.Kept.{LowSet, run-kept}
 use Rattle.model.proofs.LowEquivalence.{Twin}
 use Rattle.model.proofs.Landing.{Lands}
 use Rattle.model.proofs.Start.{AlikeInputs, length-slots, numbers-point, start-fresh, start-equivalent}
@@ -72,16 +72,15 @@ module _ (bs : List ℕ) (ok : refusal bs ≡ 0) where
         at-start = start-zero (header bs .labels .count) (header bs .records .count) (codeBytes bs) code-ok
             (code-there bs (refusal-each bs ok .1 .0) (refusal-each bs ok .1 .1 .0));
         handlers = tt;
-        fresh = subst (λ (n : ℕ). Fresh (startAccount (labelAt bs 0) (labelAt bs 1) (header bs .steps) n (header bs .places)) start)
-            (inputs-count (labelAt bs) (recordBytes bs) (header bs .records .count) 0)
-            (start-fresh (fileInputs bs) (labelAt bs 0) (labelAt bs 1) (header bs .steps) (header bs .places) (places-fit bs (refusal-each bs ok .1 .0)));
+        fresh = start-fresh (fileInputs bs) (labelAt bs 0) (labelAt bs 1) (header bs .steps) (header bs .records .count) (header bs .places)
+            (sym (inputs-count (labelAt bs) (recordBytes bs) (header bs .records .count) 0)) (places-fit bs (refusal-each bs ok .1 .0));
         reach = record { stack = tt; locals = numbers-point (Twin start start) 16 };
         closed = start-equivalent (fileProgram bs) all (fileInputs bs) (fileInputs bs) (alike-self (fileInputs bs)) refl;
       }
 
   -- Accepted files never meet the totals.
-  pub accepted : (c : Control) (a : Account) (σ : Store) → Reached (fileProgram bs) startControl (fileAccount bs) (startStore (inputSlots (fileInputs bs))) c a σ
-      → NoTotals bs c σ
+  pub accepted : (c : Control) (a : Account) (σ : Store)
+      → Reached (fileProgram bs) startControl (fileAccount bs) (startStore (inputSlots (fileInputs bs))) c a σ → NoTotals bs c σ
   unfolding start
   accepted c a σ h =
       let s = reached-safe (fileProgram bs) (every-label bs) Starts goes-to-starts startControl (fileAccount bs) start start-safe c a σ h in

@@ -32,7 +32,8 @@ module _ (bs cs : List ℕ) (sized : length bs ≡ length cs) where
   same-slice m n h =
       ext-getD 0 (take n (drop m bs)) (take n (drop m cs)) (simp (length-take, length-drop) (omega arith))
       (λ p lt. let le : p < n = omega (arith, simp length-take at lt) in
-      getD-take n (drop m bs) p 0 le ∙ getD-drop m bs p 0 ∙ h (m + p) (omega arith) (omega arith) ∙ sym (getD-drop m cs p 0) ∙ sym (getD-take n (drop m cs) p 0 le))
+      getD-take n (drop m bs) p 0 le ∙ getD-drop m bs p 0 ∙ h (m + p) (omega arith) (omega arith)
+      ∙ sym (getD-drop m cs p 0) ∙ sym (getD-take n (drop m cs) p 0 le))
 
 -- byte q of the record section
 record-byte : (bs : List ℕ) (q : ℕ) → q < 6 * header bs .records .count → byte (recordBytes bs) q ≡ byte bs (header bs .records .offset + q)

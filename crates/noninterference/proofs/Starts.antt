@@ -91,7 +91,9 @@ module _ (code : List ℕ) where
       one next (inr g) = later (next g)
 
       inside : (among i rest ≡ true → Follows j rest i) → (t : Bool) → ltb j (length code) ≡ t → Follows d (sweep (suc f) code j) i
-      inside next true e = subst (λ (is : List ℕ). Follows d is i) (sym (sweep-one f j e)) (one next (either (eqb i j) (among i rest) (subst (λ (is : List ℕ). among i is ≡ true) (sweep-one f j e) h)))
+      inside next true e =
+          subst (λ (is : List ℕ). Follows d is i) (sym (sweep-one f j e))
+          (one next (either (eqb i j) (among i rest) (subst (λ (is : List ℕ). among i is ≡ true) (sweep-one f j e) h)))
       inside next false e = absurd (true≢false (sym (subst (λ (is : List ℕ). among i is ≡ true) (sweep-none (suc f) j e) h)))
 
 -- ── where code goes ──
@@ -190,7 +192,9 @@ module _ (l c : ℕ) (code : List ℕ) (ok : codeOk l c code ≡ true) where
   lands pc h = by (start-next pc h)
     where
       by : Follows code 0 (starts code) pc → Lands Start (after code pc) (fetch code pc)
-      by (inl g) = lands-next l c (after code pc) (starts code) (fetch code pc) (operands-fit pc h) (ap (λ (p : ℕ). among p (starts code)) (after-is pc h) ∙ g)
+      by (inl g) =
+          lands-next l c (after code pc) (starts code) (fetch code pc) (operands-fit pc h)
+          (ap (λ (p : ℕ). among p (starts code)) (after-is pc h) ∙ g)
       by (inr g) =
           last-lands pc h
           (subst (λ (p : ℕ). mayBeLast (byte code p) ≡ true) g

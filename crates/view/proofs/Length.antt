@@ -120,6 +120,7 @@ unfolding recordsShown
 shown-most Reads [] = omega arith
 shown-most Reads (x ∷ σ) = omega (arith, one-most (shown Reads x), shown-most Reads σ)
 
-pub length-field-places : (Reads : Label → Bool) (s : ℕ) (o : Outcome) → length (o .store) ≤ 256 → u16 (view Reads s o) 10 ≡ length (view Reads s o)
+pub length-field-places : (Reads : Label → Bool) (s : ℕ) (o : Outcome) → length (o .store) ≤ 256
+    → u16 (view Reads s o) 10 ≡ length (view Reads s o)
 unfolding viewLength
 length-field-places Reads s o le = length-field Reads s o (omega (arith, shown-most Reads (o .store)))

@@ -64,7 +64,12 @@ module _ (Reads Low : Label → Bool) (within : (l : Label) → Reads l ≡ true
   unfolding view viewLength
   same-view P s o q m =
       let ends = ends-alike s (o .store) (q .store) (o .ending) (q .ending) (o .account) (q .account) (m .ends) in
-      cc (ends .0, ends .1, fields-alike Reads 0 (o .store) (q .store) (m .stores .sized) each, shown-alike Reads (o .store) (q .store) (m .stores .sized) each)
+      cc (
+        ends .0,
+        ends .1,
+        fields-alike Reads 0 (o .store) (q .store) (m .stores .sized) each,
+        shown-alike Reads (o .store) (q .store) (m .stores .sized) each,
+      )
     where
       each : (p : ℕ) → shown Reads (at (o .store) p) ≡ shown Reads (at (q .store) p)
       each p = shown-visible (at (o .store) p) ∙ ap (shown Reads) (m .stores .alike p) ∙ sym (shown-visible (at (q .store) p))
