@@ -14,7 +14,7 @@ use Rattle.model.proofs.Kept.{LowSet, visible, unseen}
 use Rattle.model.proofs.LowEquivalence.{SharedContents, SharedSlot, SharedEnding, Ends, together, apart, shared-visible}
 
 module _ (P : Program) (Low : Label → Bool) (D : LowSet P Low) where
-  -- a label that the observer doesn't see doesn't flow to a bound that he sees
+  -- a label that is not in the set doesn't flow to a bound in the set
   no-flow : (l b : Label) → Low l ≡ false → Low b ≡ true → P .flows l b ≡ false
   no-flow l b u e = test (P .flows l b) refl
     where
@@ -32,7 +32,7 @@ module _ (P : Program) (Low : Label → Bool) (D : LowSet P Low) where
   shared-ending σ τ (Faulted code n) o = tt
   shared-ending σ τ Spent o = tt
 
-  -- Under a bound that the observer sees, bodies that ended apart give fault 31, both; under any other he sees no outcome.
+  -- Under a bound that the observer sees, bodies that ended apart give fault 31, both; under any other no outcome is seen.
   pub outcome-visible : (b : Label) (σ τ : Store) (e f : Ending) (a c : Account) → Ends Low σ τ e a f c
       → (visible Low (holding Sealed b (outcome P b (record { ending = e; account = a; store = σ })))
       ≡ visible Low (holding Sealed b (outcome P b (record { ending = f; account = c; store = τ }))))

@@ -1,5 +1,5 @@
--- The two-run theorem: two runs of one program from stores that an observer can't tell apart end so that he can't tell them
--- apart. Neither is assumed to finish, and nothing is assumed of the code.
+-- The two-run theorem: two runs of one program from stores that an observer can't tell apart end so that the observer can't tell
+-- them apart. Neither is assumed to finish, and nothing is assumed of the code.
 use mathlib.Core.Bool.{Bool}
 use Prim.Native.Nat.{ℕ, zero, suc}
 use Rattle.labels.specs.declared.Label.{Label}

@@ -1,4 +1,4 @@
--- One instruction in two runs: from states that an observer can't tell apart to states that he can't.
+-- One instruction in two runs: from states that an observer can't tell apart to states that the observer can't.
 use mathlib.Core.Bool.{Bool, true, false, cond, _&&_}
 use mathlib.Core.List.{List, [], _∷_}
 use mathlib.Core.Path.{_≡_, refl, sym, ap, _∙_, subst, subst₂}
