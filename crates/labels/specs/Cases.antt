@@ -1,4 +1,4 @@
--- The bench cases P1 to P8, each a test, as the start of one table. Assumes nothing.
+-- Bench cases: P1 to P8, each a test, as the start of one table. Assumes nothing.
 use mathlib.Core.Bool.{Bool, true, not, _&&_}
 use mathlib.Core.List.{List, [], _∷_}
 use Prim.Native.Nat.{ℕ}

@@ -1,4 +1,4 @@
--- Label entries: what reading bytes as one gives, and what writing one leaves. Assumes nothing.
+-- Labels, label entries: what reading bytes as one gives, and what writing one leaves. Assumes nothing.
 use mathlib.Core.Bool.{Bool, cond, _&&_}
 use mathlib.Core.List.{List, _∷_, _++_}
 use Prim.Native.Nat.{ℕ, _+_}
@@ -14,7 +14,7 @@ use Rattle.labels.specs.declared.Written.the-variants.{Bytes, TooShort}
 
 -- ---- reading
 
--- A label entry is two count bytes (S clauses, I clauses), then the masks.
+-- Labels: "A label entry is two count bytes (S clauses, I clauses), then the masks."
 abbrev pub secrecyMasks : List ℕ → List ℕ
 secrecyMasks xs = take (getD xs 0 0) (drop 2 xs)
 
@@ -24,7 +24,8 @@ integrityMasks xs = take (getD xs 1 0) (drop (2 + getD xs 0 0) xs)
 abbrev pub entryLength : List ℕ → ℕ
 entryLength xs = 2 + getD xs 0 0 + getD xs 1 0
 
--- A formula has at most 20 clauses. Masks of one formula ascend strictly, none is a subset of another, each is at most 63.
+-- Labels: "Masks of one formula ascend strictly, none is a subset of another, each is at most 63. A formula has at most 20
+-- such clauses."
 unfoldable pub wellFormed : List ℕ → Bool
 wellFormed xs =
     leb 2 (length xs)
@@ -40,7 +41,7 @@ readEntry xs = cond (wellFormed xs) (Read (label (secrecyMasks xs) (integrityMas
 
 -- ---- writing
 
--- The entry of a label has the one list of each of its tables.
+-- Labels: "Every table that can arise has one such list, and writing it gives that list." Any other table has a list too.
 abbrev pub entryBytes : Label → List ℕ
 entryBytes l =
     length (clauses 6 (l .secrecy))

@@ -1,12 +1,10 @@
 ghost use mathlib.Core.Path.{_≡_};
-ghost use mathlib.Core.Bool.{_||_};
 ghost use mathlib.Core.List.{[], _∷_};
 ghost use Prim.Native.Nat.{_<_, _≤_, _^_};
-ghost use lib.Bits.{bitOr};
 ghost use lib.ListN.{length, drop};
 ghost use Rattle.formulas.specs.Bits.{bit};
 ghost use Rattle.formulas.specs.Formula.{table, implies};
-ghost use Rattle.formulas.specs.Normal.{leads, canonical, maximalFalse, clauses};
+ghost use Rattle.formulas.specs.Normal.{leads, canonical, passesWith, maximalFalse, clauses};
 ghost use Rattle.labels.specs.Order.{flows, join, meet};
 ghost use Rattle.labels.specs.Entry.{readEntry, writeAnswer, writeBuffer};
 
@@ -250,7 +248,7 @@ fn maximal_false(t: u64, x: u64) -> bool
 // Whether `p` is in the set `x`, or `x` with `p` is in the table `t`.
 fn passes_with(t: u64, x: u64, p: u64) -> bool
     requires { ⌜ (x < 64) × (p < 6) ⌝ }
-    ensures { λ r. ⌜ r ≡ (bit x p || bit t (bitOr x (2 ^ p))) ⌝ }
+    ensures { λ r. ⌜ r ≡ passesWith t x p ⌝ }
 {
     has(x, p) || has(t, x | singleton(p))
 }
@@ -273,6 +271,7 @@ fn has(t: u64, i: u64) -> bool
     t >> i & 1 != 0
 }
 
+// The byte `x`, as wide as a table.
 fn wide(x: u8) -> u64
     ensures { λ r. ⌜ r ≡ x ⌝ }
 {

@@ -1,4 +1,4 @@
--- `labels::canonical` meets its contract. The loop's invariant: what is said of all the masks is said of selected from `i` on.
+-- `labels::canonical` meets its contract. The loop's invariant: what is said of all the masks is said of those from `i` on.
 -- Assumes nothing.
 use mathlib.Core.Path.{_≡_, sym, _∙_}
 use Prim.Native.Nat.{_≤_, _-_}

@@ -1,3 +1,4 @@
+-- `labels::clause_table` meets its contract. The loop's invariant: `t` is the table of the members below `p`. Assumes nothing.
 use mathlib.Core.Path.{_≡_, sym, _∙_}
 use mathlib.Core.List.{[], _∷_}
 use mathlib.Core.Logic.{⊎-elim}

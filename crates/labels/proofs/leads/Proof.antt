@@ -1,4 +1,4 @@
--- `labels::leads` meets its contract. The loop's invariant: what is said of the masks from `from` on is said of selected from `j` on.
+-- `labels::leads` meets its contract. The loop's invariant: what is said of the masks from `from` on is said of those from `j` on.
 -- Assumes nothing.
 use mathlib.Core.Path.{_≡_, sym, _∙_}
 use Prim.Native.Nat.{_≤_, _-_}

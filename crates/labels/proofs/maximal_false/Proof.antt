@@ -5,13 +5,13 @@ use native.Mathlib.Omega.{arith}
 use borrow.Author.Needs.{needs}
 use borrow.Author.Tests.{not-true, not-false}
 use lib.Dec.{T}
-use Rattle.formulas.specs.Normal.{allBelow}
-use Rattle.labels.proofs.MaximalFalse.{grows, maximal-in, maximal-stops, grows-next, maximal-is}
+use Rattle.formulas.specs.Normal.{allBelow, passesWith}
+use Rattle.labels.proofs.MaximalFalse.{maximal-in, maximal-stops, passes-next, maximal-is}
 use Rattle.labels.proofs.maximal_false.Statement.{statement}
 use Rattle.labels.proofs.maximal_false.Tie as tie
 
 abbrev Inv-loop : tie.InvT-loop
-Inv-loop t x p₀ p = (p ≤ 6) × T (allBelow p (grows t x))
+Inv-loop t x p₀ p = (p ≤ 6) × T (allBelow p (passesWith t x))
 
 abbrev μ-loop : tie.MeasureT-loop
 μ-loop t x p₀ p = 6 - p
@@ -42,7 +42,7 @@ loop-less c = search needs
 loop-again : tie.Need-loop-again Inv-loop μ-loop
 loop-again c =
     let a = c .before .before .before .before .before .before .args in let l = c .before .before .before .loop in
-    (search needs, grows-next (a .t) (a .x) (l .p) (l .inv .1) (sym (c .before .passes-with .ensures) ∙ not-false _ (c .if2 .left)))
+    (search needs, passes-next (a .t) (a .x) (l .p) (l .inv .1) (sym (c .before .passes-with .ensures) ∙ not-false _ (c .if2 .left)))
 
 returns-3 : tie.Need-returns-3 Inv-loop μ-loop
 returns-3 c =

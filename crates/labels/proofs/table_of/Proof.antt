@@ -1,4 +1,4 @@
--- `labels::table_of` meets its contract. The loop's invariant: what is said of all the masks is said of selected from `i` on.
+-- `labels::table_of` meets its contract. The loop's invariant: what is said of all the masks is said of those from `i` on.
 -- Assumes nothing.
 use mathlib.Core.Path.{_≡_, ap, _∙_}
 use mathlib.Core.List.{[], _∷_}

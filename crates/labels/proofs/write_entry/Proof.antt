@@ -24,8 +24,8 @@ add-e c = omega (arith, c .before .count-clauses .ensures, c .count-clauses2 .en
 returns : tie.Need-returns
 returns c =
     let a = c .before .before .before .before .args in (
-      short-answer (a .l) (a .out .now) _ _ (c .before .before .count-clauses .ensures) (c .before .count-clauses2 .ensures) (c .if1 .taken),
-      short-buffer (a .l) (a .out .now) _ _ (c .before .before .count-clauses .ensures) (c .before .count-clauses2 .ensures) (c .if1 .taken),
+      short-answer (a .l) (a .out .now) _ _ (c .before .before .count-clauses .ensures) (c .before .count-clauses2 .ensures) (omega arith),
+      short-buffer (a .l) (a .out .now) _ _ (c .before .before .count-clauses .ensures) (c .before .count-clauses2 .ensures) (omega arith),
     )
 
 cast-out : tie.Need-cast-out
