@@ -23,7 +23,7 @@ use Rattle.script_file.specs.Sweep.{among, starts, instrOk, codeOk}
 use Rattle.script_file.specs.Checks.{passes7, refusal}
 use Rattle.script_file.specs.Program.{fileInputs, fileProgram, fileAccount, fileRun}
 use Rattle.view.specs.Reading.{fileView}
-use Rattle.view.proofs.Length.{length-field-places}
+use Rattle.view.proofs.LengthField.{length-field-places}
 use Rattle.noninterference.proofs.Checks.{from-T, refusal-each, inputs-few, places-fit, code-there}
 use Rattle.noninterference.proofs.Sections.{inputs-count}
 use Rattle.noninterference.proofs.Starts.{start-ok, lands, start-zero}
