@@ -5,6 +5,7 @@ pub mod Places
 -- One run, by the effects of an instruction: fuel, steps and places, what is kept.
 pub mod Effects
 pub mod Fuel
+pub mod Costs
 pub mod Bounds
 pub mod Kept
 -- Two runs: what an observer sees of both.
