@@ -1,15 +1,15 @@
 -- What an instruction can do to account and store: six effects. What holds of each holds of every instruction, and what
 -- goes through each goes through a run. Theorems on one run are proved by these two principles, once for each effect.
-use mathlib.Core.Bool.{Bool, true, cond, _&&_}
+use mathlib.Core.Bool.{true, _&&_}
 use mathlib.Core.List.{List, [], _∷_}
 use mathlib.Core.Path.{_≡_, refl}
 use Prim.Native.Nat.{ℕ, zero, suc, _+_, _-_, _≤_, _<_}
 use lib.Dec.{leb, ltb}
 use lib.ListN.{set}
 use Rattle.labels.specs.declared.Label.{Label}
-use Rattle.model.specs.State.{Control, Account, Store, Program, Outcome, Runner, at, jump, withLabel, withClearance, withSteps, withNext}
+use Rattle.model.specs.State.{Control, Account, Store, Program, Outcome, Runner, at, jump, withClearance, withSteps, withNext}
 use Rattle.model.specs.Operands.{Request, none, ends, throws, raises, lowers, labels, opens, makes, writes, blocks, Plan, faults, asks, plan}
-use Rattle.model.specs.Effects.{Next, go, stop, failTo, fail, checkTarget, checkRaise, raised, holding, yield, openSlot, labelSlot, writeSlot, bodyControl, bodyAccount, act}
+use Rattle.model.specs.Effects.{Next, go, stop, failTo, fail, checkTarget, raised, holding, yield, openSlot, labelSlot, writeSlot, bodyControl, bodyAccount, act}
 use Rattle.model.specs.Running.{perform, step, resume, pay, run}
 use Rattle.model.specs.declared.Kind.{Kind}
 use Rattle.model.specs.declared.Kind.the-variants.{Sealed}
@@ -95,7 +95,8 @@ module _ (G : Account → Store → Type 0) where
     act-of r (raises l) = cond-one (Of G) (P .flows (P .join (a .label) l) (a .clearance)) (λ e. E .raises-to l e) (λ _. fails 24 0)
     act-of r (lowers l) =
         cond-one (Of G) (P .flows (a .label) l && P .flows l (a .clearance))
-        (λ e. E .lowers-to l (both-left (P .flows (a .label) l) (P .flows l (a .clearance)) e) (both-right (P .flows (a .label) l) (P .flows l (a .clearance)) e))
+        (λ e. E .lowers-to l (both-left (P .flows (a .label) l) (P .flows l (a .clearance)) e)
+        (both-right (P .flows (a .label) l) (P .flows l (a .clearance)) e))
         (λ _. fails 25 0)
     act-of r (labels p) = label-of r (at σ p)
     act-of r (opens p) = open-of r (at σ p)

@@ -16,7 +16,7 @@ use Rattle.model.specs.declared.Record.{Record}
 use Rattle.model.specs.declared.Slot.{Slot}
 use Rattle.model.specs.declared.Slot.the-variants.{Empty, Full}
 use Rattle.model.proofs.Places.{after-set}
-use Rattle.model.proofs.Effects.{Effects, Runs, Of, step-of, resume-of, run-of}
+use Rattle.model.proofs.Effects.{Runs, Of, step-of, resume-of, run-of}
 
 -- ── the statement ──
 

@@ -1,5 +1,5 @@
 -- Two stores that an observer can't tell apart, and what keeps them so.
-use mathlib.Core.Bool.{Bool, true, false, cond}
+use mathlib.Core.Bool.{Bool, false}
 use mathlib.Core.Logic.{_≢_}
 use mathlib.Core.Path.{_≡_, refl, sym, ap, _∙_, subst}
 use Prim.Native.Nat.{ℕ, _<_}
@@ -13,7 +13,6 @@ use Rattle.model.specs.declared.Kind.{Kind}
 use Rattle.model.specs.declared.Datum.{Datum}
 use Rattle.model.specs.declared.Contents.{Contents}
 use Rattle.model.specs.declared.Contents.the-variants.{Value as Holds, Fault}
-use Rattle.model.specs.declared.Record.{Record}
 use Rattle.model.specs.declared.Slot.{Slot}
 use Rattle.model.specs.declared.Slot.the-variants.{Empty, Full}
 use Rattle.model.specs.declared.Ending.{Ending}
@@ -21,7 +20,7 @@ use Rattle.model.specs.declared.Ending.the-variants.{Result, Fault as Fa
 use Rattle.model.proofs.Tests.{cond-one}
 use Rattle.model.proofs.Places.{after-sets}
 use Rattle.model.proofs.Effects.{accountOf, storeOf}
-use Rattle.model.proofs.Kept.{visible, shell, Fresh, Kept, unseen}
+use Rattle.model.proofs.Kept.{visible, shell, Fresh, Kept}
 use Rattle.model.proofs.Plans.{Points, All, all-wider, points-wider, Reach}
 
 -- ── the relation ──

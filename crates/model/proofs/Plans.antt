@@ -1,5 +1,5 @@
 -- A plan makes no handle: a property T of the place of every handle in the script's reach is one of every handle in the plan.
-use mathlib.Core.Bool.{Bool, true, false, cond}
+use mathlib.Core.Bool.{Bool, true, false}
 use mathlib.Core.List.{List, [], _∷_}
 use Prim.Native.Nat.{ℕ, zero, suc, _+_, _-_}
 use lib.Dec.{leb, ltb, eqb}
@@ -7,7 +7,6 @@ use lib.ListN.{length, getD, set, drop}
 use Rattle.labels.specs.declared.Label.{Label}
 use Rattle.model.specs.State.{Control, Account, Program, value, number, withStack}
 use Rattle.model.specs.Operands.{Request, none, ends, throws, raises, lowers, labels, opens, makes, writes, blocks, Plan, faults, asks, popFrom, asNumber, asLabel, asHandle, asSealed, asReference, pop, popNumber, popLabel, arity, pushes, truth, dropFrame, operate, plan}
-use Rattle.model.specs.declared.Kind.{Kind}
 use Rattle.model.specs.declared.Kind.the-variants.{Sealed, Reference}
 use Rattle.model.specs.declared.Datum.{Datum}
 use Rattle.model.specs.declared.Datum.the-variants.{Number, Label as Labelled, Handle}

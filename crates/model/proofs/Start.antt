@@ -7,20 +7,19 @@ use Prim.Native.Nat.{ℕ, zero, suc, _+_, _-_, _≤_, _<_}
 use native.Mathlib.Omega.{arith}
 use lib.ListN.{length, replicate, length-append, length-replicate}
 use Rattle.labels.specs.declared.Label.{Label}
-use Rattle.model.specs.State.{Account, Store, Program, Outcome, at, value, number}
+use Rattle.model.specs.State.{Store, Program, at, value, number}
 use Rattle.model.specs.Effects.{holding}
 use Rattle.model.specs.Inputs.{Input, handles, inputSlots}
 use Rattle.model.specs.Running.{runs, startControl, startAccount, startStore}
 use Rattle.model.specs.declared.Kind.{Kind}
 use Rattle.model.specs.declared.Datum.the-variants.{Number, Handle}
 use Rattle.model.specs.declared.Value.{Value}
-use Rattle.model.specs.declared.Contents.{Contents}
 use Rattle.model.specs.declared.Contents.the-variants.{Value as Holds}
 use Rattle.model.specs.declared.Slot.{Slot}
 use Rattle.model.specs.declared.Slot.the-variants.{Empty}
 use Rattle.model.proofs.Kept.{LowSet, visible, shell, Fresh, unseen}
 use Rattle.model.proofs.Plans.{All}
-use Rattle.model.proofs.LowEquivalence.{Twin, SharedSlot, LowEquivalent, LowOutcomes, shell-full, shell-alike, shared-visible}
+use Rattle.model.proofs.LowEquivalence.{Twin, SharedSlot, LowEquivalent, LowOutcomes, shell-full, shared-visible}
 use Rattle.model.proofs.TwoRuns.{two-runs}
 
 -- ── the statement ──
@@ -117,15 +116,16 @@ pub numbers-point : (T : ℕ → Type 0) (n : ℕ) → All T (replicate n (numbe
 numbers-point T zero = tt
 numbers-point T (suc n) = (tt, numbers-point T n)
 
-pub start-fresh : (xs : List Input) (l c : Label) (s k : ℕ) → k ≤ 256 → Fresh (startAccount l c s (length xs) k) (startStore (inputSlots xs))
+pub start-fresh : (xs : List Input) (l c : Label) (s n k : ℕ) → n ≡ length xs → k ≤ 256
+    → Fresh (startAccount l c s n k) (startStore (inputSlots xs))
 unfolding startStore
-start-fresh xs l c s k h p i = (
+start-fresh xs l c s n k e h p i = (
   simp (length-append, length-replicate, length-slots) (omega arith),
-  rest-empty xs (256 - length (inputSlots xs)) p (i .0),
+  rest-empty xs (256 - length (inputSlots xs)) p (omega (arith, i .0)),
 )
 
 module _ (P : Program) (Low : Label → Bool) (xs ys : List Input) (same : AlikeInputs Low xs ys) where
-  start-equivalent : P .inputs ≡ handles 0 xs → LowEquivalent P Low (startStore (inputSlots xs)) (startStore (inputSlots ys))
+  pub start-equivalent : P .inputs ≡ handles 0 xs → LowEquivalent P Low (startStore (inputSlots xs)) (startStore (inputSlots ys))
   unfolding startStore
   start-equivalent ins =
       record {
@@ -147,14 +147,11 @@ module _ (P : Program) (Low : Label → Bool) (xs ys : List Input) (same : Alike
       pair : (p : ℕ) → (visible Low (at σ p) ≡ visible Low (at τ p)) × (shell (at σ p) ≡ shell (at τ p))
       pair p = rw counts (alike-places Low (256 - length (inputSlots xs)) xs ys same p)
 
-  -- Two runs from input records that differ only in numbers under labels that are not in the set
-  pub two-starts : LowSet P Low → P .inputs ≡ handles 0 xs → (l c : Label) (s k : ℕ) → k ≤ 256
-      → LowOutcomes P Low (runs P startControl (startAccount l c s (length xs) k) (startStore (inputSlots xs)))
-      (runs P startControl (startAccount l c s (length ys) k) (startStore (inputSlots ys)))
-  two-starts D ins l c s k h =
-      subst (λ (n : ℕ). LowOutcomes P Low (runs P startControl (startAccount l c s (length xs) k) (startStore (inputSlots xs)))
-      (runs P startControl (startAccount l c s n k) (startStore (inputSlots ys)))) (alike-length Low xs ys same)
-      (two-runs P Low D startControl (startAccount l c s (length xs) k) (startStore (inputSlots xs)) (startStore (inputSlots ys))
-      (start-fresh xs l c s k h)
-      (subst (λ (n : ℕ). Fresh (startAccount l c s n k) (startStore (inputSlots ys))) (sym (alike-length Low xs ys same)) (start-fresh ys l c s k h))
-      (record { stack = tt; locals = numbers-point (Twin (startStore (inputSlots xs)) (startStore (inputSlots ys))) 16 }) (start-equivalent ins))
+  -- Two runs from n input records that differ only in numbers under labels that are not in the set
+  pub two-starts : LowSet P Low → P .inputs ≡ handles 0 xs → (l c : Label) (s n k : ℕ) → n ≡ length xs → k ≤ 256
+      → LowOutcomes P Low (runs P startControl (startAccount l c s n k) (startStore (inputSlots xs)))
+      (runs P startControl (startAccount l c s n k) (startStore (inputSlots ys)))
+  two-starts D ins l c s n k e h =
+      two-runs P Low D startControl (startAccount l c s n k) (startStore (inputSlots xs)) (startStore (inputSlots ys))
+      (start-fresh xs l c s n k e h) (start-fresh ys l c s n k (e ∙ alike-length Low xs ys same) h)
+      (record { stack = tt; locals = numbers-point (Twin (startStore (inputSlots xs)) (startStore (inputSlots ys))) 16 }) (start-equivalent ins)

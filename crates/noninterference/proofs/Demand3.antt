@@ -1,63 +1,47 @@
 -- Demand 3, whole: one claim about two reads of two files. Any code, any numbers of steps and places, any buffers of one
 -- length; what is known of the order of labels is proved, not assumed.
-use mathlib.Core.Bool.{Bool, true, false, cond, true≢false}
-use mathlib.Core.List.{List, [], _∷_}
+use mathlib.Core.Bool.{Bool, true, false, true≢false}
+use mathlib.Core.List.{List}
 use mathlib.Core.Path.{_≡_, refl, sym, ap, ap₂, _∙_, subst}
-use Prim.Native.Nat.{ℕ, _≤_}
+use Prim.Native.Nat.{ℕ}
 use native.Mathlib.Omega.{arith}
-use lib.Dec.{T, leb, ltb, eqb, eqb→eq}
+use lib.Dec.{leb, ltb, eqb}
 use lib.ListN.{length}
 use lib.Seq.{ext-getD}
-use Rattle.labels.specs.Order.{flows, join, meet}
+use Rattle.labels.specs.Order.{flows, join}
 use Rattle.labels.specs.declared.Label.{Label}
 use Rattle.labels.proofs.Laws.{labels}
-use Rattle.model.specs.State.{Program}
-use Rattle.model.specs.Decoding.{fetch, after}
-use Rattle.model.specs.Inputs.{Input, handles, inputSlots}
-use Rattle.model.specs.Running.{runs, startControl, startAccount, startStore}
-use Rattle.model.specs.declared.Value.{Value}
+use Rattle.model.specs.State.{Outcome}
+use Rattle.model.specs.Inputs.{inputSlots}
+use Rattle.model.specs.Running.{runs, startControl, startStore}
 use Rattle.model.proofs.Tests.{leb-le, cond-two}
 use Rattle.model.proofs.Kept.{LowSet}
+use Rattle.model.proofs.LowEquivalence.{LowOutcomes}
 use Rattle.model.proofs.Start.{AlikeInputs, alike-handles, two-starts}
 use Rattle.script_file.specs.declared.Header.{Header}
-use Rattle.script_file.specs.Sections.{header, codeBytes, labelAt}
-use Rattle.script_file.specs.Sweep.{codeOk}
-use Rattle.script_file.specs.Checks.{sizeOk, countsOk, offsetsOk, present, passes1, passes2, passes3, passes4, passes5, passes6, passes7, lowest, refusal}
+use Rattle.script_file.specs.Sections.{header, recordBytes, labelAt}
+use Rattle.script_file.specs.Checks.{passes1, passes2, passes3, passes4, passes5, passes7, refusal}
 use Rattle.script_file.specs.Program.{fileInputs, fileProgram, fileAccount, fileRun}
 use Rattle.view.specs.Layout.{view}
-use Rattle.view.specs.Reading.{Reading, fileView, refuse, show, reading}
+use Rattle.view.specs.Reading.{fileView, show, reading}
 use Rattle.view.proofs.SameView.{same-view}
 use Rattle.noninterference.specs.Alike.{legible, Alike, SameReads, both-refused, both-viewed}
-use Rattle.noninterference.proofs.Sections.{legible-each, places-fit, inputs-count, same-header, same-labels, same-label, same-code, alike-inputs}
+use Rattle.noninterference.proofs.Checks.{from-T, to-T, legible-each, places-fit}
+use Rattle.noninterference.proofs.Sections.{inputs-count, same-header, same-labels, same-label, same-code, alike-inputs}
 
 -- ── the labels that a reader sees ──
-
--- T b is a record of b's being true
-holds : (b : Bool) → T b → b ≡ true
-holds true t = refl
-holds false t = absurd t
-
-of-T : (b : Bool) → b ≡ true → T b
-of-T b e = subst T (sym e) tt
 
 -- The labels that flow to a reading label are closed downward, under the order of labels.
 readable : (bs : List ℕ) (m : Label) → LowSet (fileProgram bs) (λ l. flows l m)
 unfolding fileProgram
 readable bs m =
     record {
-      down = λ k l e f. holds (flows k m) (labels .le-trans k l m (of-T (flows k l) e) (of-T (flows l m) f));
-      join-left = λ k l. holds (flows k (join k l)) (labels .le-left k l);
-      join-right = λ k l. holds (flows l (join k l)) (labels .le-right k l);
+      down = λ k l e f. from-T (flows k m) (labels .le-trans k l m (to-T (flows k l) e) (to-T (flows l m) f));
+      join-left = λ k l. from-T (flows k (join k l)) (labels .le-left k l);
+      join-right = λ k l. from-T (flows l (join k l)) (labels .le-right k l);
     }
 
 -- ── two files that none of 1 to 4, 6 and 8 stops ──
-
--- the view of a file's run, by what of the file it depends on
-viewOf : ℕ → Header → (ℕ → Label) → List ℕ → List Value → ℕ → List Input → List ℕ
-viewOf i h ls code hs n xs =
-    view (λ l. flows l (ls i)) (h .steps)
-    (runs (record { flows = flows; join = join; meet = meet; fetch = fetch code; after = after code; labels = ls; inputs = hs }) startControl
-    (startAccount (ls 0) (ls 1) (h .steps) n (h .places)) (startStore (inputSlots xs)))
 
 module _ (bs cs : List ℕ) (i : ℕ) (A : Alike bs cs i) (lb : legible bs i ≡ true) (lc : legible cs i ≡ true) where
   he : header bs ≡ header cs
@@ -70,21 +54,39 @@ module _ (bs cs : List ℕ) (i : ℕ) (A : Alike bs cs i) (lb : legible bs i ≡
       let six′ = legible-each cs i lc .1 .1 .1 .1 .0 in
       cc (A .sized, he, same-labels bs cs i A lb lc, same-label bs cs i A lb lc, same-code bs cs i A lb lc, six, six′)
 
+  alike : AlikeInputs (λ l. flows l (labelAt bs i)) (fileInputs bs) (fileInputs cs)
+  alike = alike-inputs bs cs i A lb lc
+
+  same-program : fileProgram bs ≡ fileProgram cs
+  unfolding fileProgram
+  same-program =
+      cc (same-code bs cs i A lb lc, same-label bs cs i A lb lc, alike-handles (λ l. flows l (labelAt bs i)) 0 (fileInputs bs) (fileInputs cs) alike)
+
+  same-account : fileAccount bs ≡ fileAccount cs
+  unfolding fileAccount
+  same-account = cc (he, same-label bs cs i A lb lc)
+
+  -- the run of the first file's program, on the second file's input records
+  middle : Outcome
+  middle = runs (fileProgram bs) startControl (fileAccount bs) (startStore (inputSlots (fileInputs cs)))
+
+  two : LowOutcomes (fileProgram bs) (λ l. flows l (labelAt bs i)) (fileRun bs) middle
+  unfolding fileRun fileProgram fileAccount middle fileInputs
+  two =
+      two-starts (fileProgram bs) (λ l. flows l (labelAt bs i)) (fileInputs bs) (fileInputs cs) alike (readable bs (labelAt bs i)) refl
+      (labelAt bs 0) (labelAt bs 1) (header bs .steps) (header bs .records .count) (header bs .places)
+      (sym (inputs-count (labelAt bs) (recordBytes bs) (header bs .records .count) 0)) (places-fit bs (legible-each bs i lb .1 .0))
+
+  same-run : middle ≡ fileRun cs
+  unfolding fileRun middle
+  same-run = cc (same-program, same-account)
+
   views-alike : fileView bs i ≡ fileView cs i
-  unfolding fileView fileRun fileProgram fileAccount viewOf fileInputs
+  unfolding fileView
   views-alike =
-      ap (λ (n : ℕ). viewOf i (header bs) (labelAt bs) (codeBytes bs) (handles 0 (fileInputs bs)) n (fileInputs bs)) (sym (inputs-count (labelAt bs) _ (header bs .records .count) 0))
-      ∙ same-view (λ l. flows l (labelAt bs i)) (λ l. flows l (labelAt bs i)) (λ l e. e) (fileProgram bs) (header bs .steps) _ _
-      (two-starts (fileProgram bs) (λ l. flows l (labelAt bs i)) (fileInputs bs) (fileInputs cs) alike (readable bs (labelAt bs i)) refl
-      (labelAt bs 0) (labelAt bs 1) (header bs .steps) (header bs .places) (places-fit bs (legible-each bs i lb .1 .0)))
-      ∙ ap (λ (n : ℕ). viewOf i (header bs) (labelAt bs) (codeBytes bs) (handles 0 (fileInputs bs)) n (fileInputs cs)) (inputs-count (labelAt cs) _ (header cs .records .count) 0)
-      ∙ ap (λ (hs : List Value). viewOf i (header bs) (labelAt bs) (codeBytes bs) hs (header cs .records .count) (fileInputs cs)) (alike-handles (λ l. flows l (labelAt bs i)) 0 (fileInputs bs) (fileInputs cs) alike)
-      ∙ ap (λ (code : List ℕ). viewOf i (header bs) (labelAt bs) code (handles 0 (fileInputs cs)) (header cs .records .count) (fileInputs cs)) (same-code bs cs i A lb lc)
-      ∙ ap (λ (ls : ℕ → Label). viewOf i (header bs) ls (codeBytes cs) (handles 0 (fileInputs cs)) (header cs .records .count) (fileInputs cs)) (same-label bs cs i A lb lc)
-      ∙ ap (λ (h : Header). viewOf i h (labelAt cs) (codeBytes cs) (handles 0 (fileInputs cs)) (header cs .records .count) (fileInputs cs)) he
-    where
-      alike : AlikeInputs (λ l. flows l (labelAt bs i)) (fileInputs bs) (fileInputs cs)
-      alike = alike-inputs bs cs i A lb lc
+      same-view (λ l. flows l (labelAt bs i)) (λ l. flows l (labelAt bs i)) (λ l e. e) (fileProgram bs) (header bs .steps) (fileRun bs) middle two
+      ∙ ap (view (λ l. flows l (labelAt bs i)) (header bs .steps)) same-run
+      ∙ ap₂ (λ (ls : ℕ → Label) (h : Header). view (λ l. flows l (ls i)) (h .steps) (fileRun cs)) (same-label bs cs i A lb lc) he
 
 -- ── a read, from refusal and view ──
 
@@ -109,13 +111,15 @@ module _ (b d : List ℕ) (sized : length b ≡ length d) where
 
 -- Two files that are alike for a reading label's index, read with that index into buffers of one length: the same refusal
 -- and both buffers as they were, or one view and each buffer's rest as it was.
-pub demand-3 : (bs cs : List ℕ) (i : ℕ) (b d : List ℕ) → Alike bs cs i → length b ≡ length d → SameReads b d (reading bs i b) (reading cs i d)
+pub demand-3 : (bs cs : List ℕ) (i : ℕ) (b d : List ℕ) → Alike bs cs i → length b ≡ length d
+    → SameReads b d (reading bs i b) (reading cs i d)
 demand-3 bs cs i b d A sized = test (legible bs i) (legible cs i) refl refl
   where
     -- where 1 to 4, 6 or 8 applies to one of them, they are one file
     one-file : ¬ ((legible bs i ≡ true) × (legible cs i ≡ true)) → SameReads b d (reading bs i b) (reading cs i d)
     one-file n =
-        subst (λ (x : List ℕ). SameReads b d (reading bs i b) (reading x i d)) (ext-getD 0 bs cs (A .sized) (λ p _. A .bytes p (λ (u, v, _). n (u, v))))
+        subst (λ (x : List ℕ). SameReads b d (reading bs i b) (reading x i d))
+        (ext-getD 0 bs cs (A .sized) (λ p _. A .bytes p (λ (u, v, _). n (u, v))))
         (same-reads b d sized bs bs i refl refl refl)
 
     test : (s t : Bool) → legible bs i ≡ s → legible cs i ≡ t → SameReads b d (reading bs i b) (reading cs i d)

@@ -3,11 +3,10 @@
 use mathlib.Core.Bool.{true, false}
 use mathlib.Core.List.{List, [], _∷_, _++_}
 use mathlib.Core.Logic.{_≢_}
-use mathlib.Core.Path.{_≡_, refl, sym, ap, _∙_, subst}
+use mathlib.Core.Path.{_≡_, refl, sym, ap, _∙_}
 use Prim.Native.Nat.{ℕ}
 use native.Mathlib.Decide.{ℕ-discrete}
 use native.Mathlib.Omega.{arith}
-use lib.Dec.{lit<, lit≤}
 use lib.ListN.{length, set, replicate, length-set}
 use lib.Seq.{getD-set-other}
 use Rattle.formulas.specs.Formula.{holds, table, implies}
@@ -66,7 +65,18 @@ pub record Computed : Type 0 where
 
 pub computed : Computed
 unfolding file template publicView legible holds table implies flows join wellFormed readEntry u16 u32 operandBytes known size instrs fetch after popFrom asNumber asLabel asHandle asSealed asReference arity dropFrame operate plan failTo yield openSlot labelSlot writeSlot contentsOf outcome act inputs handles inputSlots perform step resume pay run runs startStore header labelBytes recordBytes codeBytes readLabels fileLabels labelAt sweep starts operandsOk instrOk mayBeLast codeOk every sizeOk countsOk offsetsOk recordsOk passes1 passes2 passes3 passes4 passes5 passes6 passes7 refusal fileInputs fileProgram fileAccount fileRun littleEndian labelField datumField contentsField endingNumber resultField kindByte recordField shown slotField recordFields recordsShown counts final viewLength view fileView
-computed = record { legible-7 = refl; legible-9 = refl; one-record = refl; at-21 = refl; hides = refl; loads = refl; shows = refl; opens-7 = refl; opens-9 = refl }
+computed =
+    record {
+      legible-7 = refl;
+      legible-9 = refl;
+      one-record = refl;
+      at-21 = refl;
+      hides = refl;
+      loads = refl;
+      shows = refl;
+      opens-7 = refl;
+      opens-9 = refl;
+    }
 
 -- The two files are different, and alike for the public reader.
 pub different : file 7 ≢ file 9
@@ -78,9 +88,17 @@ unfolding file
 alike = record { sized = length-set template 23 7 ∙ sym (length-set template 23 9); bytes = λ p n. test p n (ℕ-discrete p 23) }
   where
     hidden : (p : ℕ) → p ≡ 23 → Hidden (file 7) 0 p
-    hidden p e = record { input = 0; counted = omega (arith, computed .one-record); from = omega (arith, computed .at-21); to = omega (arith, computed .at-21); no-flow = computed .hides }
+    hidden p e =
+        record {
+          input = 0;
+          counted = omega (arith, computed .one-record);
+          from = omega (arith, computed .at-21);
+          to = omega (arith, computed .at-21);
+          no-flow = computed .hides;
+        }
 
-    test : (p : ℕ) → ¬ ((legible (file 7) 0 ≡ true) × (legible (file 9) 0 ≡ true) × Hidden (file 7) 0 p) → Dec (p ≡ 23) → byte (file 7) p ≡ byte (file 9) p
+    test : (p : ℕ) → ¬ ((legible (file 7) 0 ≡ true) × (legible (file 9) 0 ≡ true) × Hidden (file 7) 0 p) → Dec (p ≡ 23)
+        → byte (file 7) p ≡ byte (file 9) p
     test p n (yes e) = absurd (n (computed .legible-7, computed .legible-9, hidden p e))
     test p n (no e) = getD-set-other template 23 p 7 0 e ∙ sym (getD-set-other template 23 p 9 0 e)
 

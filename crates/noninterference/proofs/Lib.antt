@@ -1,4 +1,7 @@
 -- Demand 3, and what it rests on.
+pub mod Checks
+pub mod Starts
 pub mod Sections
 pub mod Demand3
 pub mod Example
+pub mod Accepted

@@ -1,40 +1,24 @@
 -- Two alike files that none of 1 to 4, 6 and 8 stops: one header, the same labels and code, and alike input records.
-use mathlib.Core.Bool.{Bool, true, false, true≢false, _&&_}
-use mathlib.Core.List.{List, [], _∷_}
+use mathlib.Core.Bool.{true, false, true≢false}
+use mathlib.Core.List.{List}
 use mathlib.Core.Option.{Option}
 use mathlib.Core.Path.{_≡_, refl, sym, ap, _∙_, subst, subst₂}
 use Prim.Native.Nat.{ℕ, zero, suc, _+_, _-_, _*_, _≤_, _<_}
 use native.Mathlib.Omega.{arith}
-use lib.Dec.{T, leb, eqb, eqb→eq, ltb, lit<}
+use lib.Dec.{lit<}
 use lib.ListN.{length, getD, take, drop, length-take, length-drop}
 use lib.Seq.{ext-getD, getD-take, getD-drop}
 use Rattle.labels.specs.Order.{flows}
 use Rattle.labels.specs.declared.Label.{Label}
 use Rattle.model.specs.Decoding.{byte, u16, u32}
-use Rattle.model.specs.Inputs.{Input, kindOf, inputs}
-use Rattle.model.proofs.Tests.{leb-le}
+use Rattle.model.specs.Inputs.{kindOf, inputs}
 use Rattle.model.proofs.Start.{AlikeInputs}
 use Rattle.script_file.specs.declared.Header.{Header}
 use Rattle.script_file.specs.Sections.{header, labelBytes, recordBytes, codeBytes, readLabels, fileLabels, orNone, labelAt}
-use Rattle.script_file.specs.Checks.{every, sizeOk, countsOk, offsetsOk, passes1, passes2, passes3, passes4, passes6}
+use Rattle.script_file.specs.Checks.{passes3}
 use Rattle.script_file.specs.Program.{fileInputs}
 use Rattle.noninterference.specs.Alike.{legible, recordAt, inputLabel, Hidden, Alike}
-
--- ── tests ──
-
-eqb-eq : (m n : ℕ) → eqb m n ≡ true → m ≡ n
-eqb-eq m n e = eqb→eq m n (subst T (sym e) tt)
-
--- each test of a list holds
-abbrev pub Each : List Bool → Type 0
-Each [] = Unit {0}
-Each (t ∷ ts) = (t ≡ true) × Each ts
-
-pub every-each : (ts : List Bool) → every ts ≡ true → Each ts
-unfolding every
-every-each [] e = tt
-every-each (true ∷ ts) e = (refl, every-each ts e)
-every-each (false ∷ ts) e = absurd (true≢false (sym e))
+use Rattle.noninterference.proofs.Checks.{legible-each, records-behind, code-behind}
 
 -- ── parts of two lists ──
 
@@ -48,7 +32,8 @@ module _ (bs cs : List ℕ) (sized : length bs ≡ length cs) where
   same-slice m n h =
       ext-getD 0 (take n (drop m bs)) (take n (drop m cs)) (simp (length-take, length-drop) (omega arith))
       (λ p lt. let le : p < n = omega (arith, simp length-take at lt) in
-      getD-take n (drop m bs) p 0 le ∙ getD-drop m bs p 0 ∙ h (m + p) (omega arith) (omega arith) ∙ sym (getD-drop m cs p 0) ∙ sym (getD-take n (drop m cs) p 0 le))
+      getD-take n (drop m bs) p 0 le ∙ getD-drop m bs p 0 ∙ h (m + p) (omega arith) (omega arith)
+      ∙ sym (getD-drop m cs p 0) ∙ sym (getD-take n (drop m cs) p 0 le))
 
 -- byte q of the record section
 record-byte : (bs : List ℕ) (q : ℕ) → q < 6 * header bs .records .count → byte (recordBytes bs) q ≡ byte bs (header bs .records .offset + q)
@@ -60,26 +45,6 @@ pub inputs-count : (ls : ℕ → Label) (bs : List ℕ) (n i : ℕ) → length (
 unfolding inputs
 inputs-count ls bs zero i = refl
 inputs-count ls bs (suc n) i = ap suc (inputs-count ls bs n (i + 6))
-
--- ── what the checks say ──
-
-pub legible-each : (bs : List ℕ) (i : ℕ) → legible bs i ≡ true
-    → Each (passes1 bs ∷ passes2 bs ∷ passes3 bs ∷ passes4 bs ∷ passes6 bs ∷ ltb i (header bs .labels .count) ∷ [])
-unfolding legible
-legible-each bs i e = every-each _ e
-
-records-behind : (bs : List ℕ) → passes3 bs ≡ true → 16 ≤ header bs .records .offset
-unfolding passes3 offsetsOk
-records-behind bs e = leb-le 16 (header bs .records .offset) (every-each _ e .1 .0)
-
-code-behind : (bs : List ℕ) → passes3 bs ≡ true → header bs .code .offset ≡ header bs .records .offset + 6 * header bs .records .count
-unfolding passes3 offsetsOk
-code-behind bs e =
-    eqb-eq (header bs .code .offset) (header bs .records .offset + 6 * header bs .records .count) (every-each _ e .1 .1 .0)
-
-pub places-fit : (bs : List ℕ) → passes2 bs ≡ true → header bs .places ≤ 256
-unfolding passes2 countsOk
-places-fit bs e = leb-le (header bs .places) 256 (every-each _ e .1 .1 .1 .1 .1 .1 .1 .0)
 
 -- ── two alike files ──
 

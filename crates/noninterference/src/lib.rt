@@ -1,1 +1,1 @@
-// No code: the theorem that a view tells its reader nothing of what is hidden from him.
+// No code: theorems on the definitions together. A view tells its reader nothing of what is hidden from its label.

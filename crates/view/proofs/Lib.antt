@@ -1,2 +1,4 @@
 -- Theorems on the definition of the view.
+pub mod Widths
+pub mod LengthField
 pub mod SameView

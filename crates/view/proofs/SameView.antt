@@ -7,7 +7,6 @@ use native.Mathlib.Omega.{arith}
 use lib.ListN.{length}
 use Rattle.labels.specs.declared.Label.{Label}
 use Rattle.model.specs.State.{Account, Store, Program, Outcome, at}
-use Rattle.model.specs.declared.Record.{Record}
 use Rattle.model.specs.declared.Slot.{Slot}
 use Rattle.model.specs.declared.Slot.the-variants.{Empty, Full}
 use Rattle.model.specs.declared.Ending.{Ending}
@@ -65,7 +64,12 @@ module _ (Reads Low : Label → Bool) (within : (l : Label) → Reads l ≡ true
   unfolding view viewLength
   same-view P s o q m =
       let ends = ends-alike s (o .store) (q .store) (o .ending) (q .ending) (o .account) (q .account) (m .ends) in
-      cc (ends .0, ends .1, fields-alike Reads 0 (o .store) (q .store) (m .stores .sized) each, shown-alike Reads (o .store) (q .store) (m .stores .sized) each)
+      cc (
+        ends .0,
+        ends .1,
+        fields-alike Reads 0 (o .store) (q .store) (m .stores .sized) each,
+        shown-alike Reads (o .store) (q .store) (m .stores .sized) each,
+      )
     where
       each : (p : ℕ) → shown Reads (at (o .store) p) ≡ shown Reads (at (q .store) p)
       each p = shown-visible (at (o .store) p) ∙ ap (shown Reads) (m .stores .alike p) ∙ sym (shown-visible (at (q .store) p))

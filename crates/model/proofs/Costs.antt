@@ -1,0 +1,176 @@
+-- What each instruction costs, exactly, in steps and places.
+use mathlib.Core.Bool.{Bool, true, false, cond, _&&_}
+use mathlib.Core.List.{List, [], _∷_}
+use mathlib.Core.Path.{_≡_, refl}
+use Prim.Native.Nat.{ℕ, suc, _+_}
+use native.Mathlib.Omega.{arith}
+use lib.Dec.{leb, ltb}
+use Rattle.labels.specs.declared.Label.{Label}
+use Rattle.model.specs.State.{Control, Account, Store, Program, Runner, at, jump, withSteps}
+use Rattle.model.specs.Operands.{Request, none, ends, throws, raises, lowers, labels, opens, makes, writes, blocks, Plan, faults, asks, plan}
+use Rattle.model.specs.Effects.{Next, failTo, fail, checkTarget, raised, yield, openSlot, labelSlot, writeSlot, act}
+use Rattle.model.specs.Running.{perform, step}
+use Rattle.model.specs.declared.Datum.{Datum}
+use Rattle.model.specs.declared.Contents.{Contents}
+use Rattle.model.specs.declared.Contents.the-variants.{Value as Holds, Fault}
+use Rattle.model.specs.declared.Slot.{Slot}
+use Rattle.model.specs.declared.Slot.the-variants.{Empty, Full}
+use Rattle.model.specs.declared.Frame.{Frame}
+use Rattle.model.proofs.Tests.{leb-le, cond-one}
+use Rattle.model.proofs.Effects.{accountOf}
+
+-- ── the statement ──
+
+-- what an instruction costs beyond its own step
+pub record Cost : Type 0 where
+  pub steps : ℕ
+  pub places : ℕ
+
+abbrev pub costs : ℕ → ℕ → Cost
+costs s p = record { steps = s; places = p }
+
+-- 23 and 24 of SEAL, NEW and BLOCK don't apply
+abbrev pub targetOk : Program → Account → Label → Bool
+targetOk P a l = P .flows (a .label) l && P .flows l (a .clearance)
+
+-- A record made costs a place. A block entered costs n steps and k + 1 places, whatever its body does. All else, and
+-- every fault, costs nothing more.
+unfoldable pub cost : Program → Account → Request → Cost
+cost P a none = costs 0 0
+cost P a (ends d) = costs 0 0
+cost P a (throws n) = costs 0 0
+cost P a (raises l) = costs 0 0
+cost P a (lowers l) = costs 0 0
+cost P a (labels p) = costs 0 0
+cost P a (opens p) = costs 0 0
+cost P a (makes h l d) = cond (targetOk P a l && ltb (a .next) (a .limit)) (costs 0 1) (costs 0 0)
+cost P a (writes p d) = costs 0 0
+cost P a (blocks b t n k) =
+    cond (targetOk P a b && (ltb (a .depth) 8 && (leb n (a .steps) && leb (a .next + 1 + k) (a .limit)))) (costs n (k + 1)) (costs 0 0)
+
+abbrev pub planCost : Program → Account → Plan → Cost
+planCost P a (faults code) = costs 0 0
+planCost P a (asks r q) = cost P a q
+
+-- of the instruction that stands next
+abbrev pub nextCost : Program → Control → Account → Cost
+nextCost P c a = planCost P a (plan P a (jump (P .after (c .pc)) c) (P .fetch (c .pc)))
+
+-- account b is account a with a cost paid; a run keeps its limit and its depth
+pub record Paid (x : Cost) (a b : Account) : Type 0 where
+  pub steps : b .steps + x .steps ≡ a .steps
+  pub next : b .next ≡ a .next + x .places
+  pub limit : b .limit ≡ a .limit
+  pub depth : b .depth ≡ a .depth
+
+-- ── the proof ──
+
+paid-none : (a : Account) → Paid (costs 0 0) a a
+paid-none a = record { steps = omega arith; next = omega arith; limit = refl; depth = refl }
+
+-- tests of a cost, in the order of the checks: the first, and the last
+first-test : (G : Cost → Next → Type 0) (s t : Bool) (u : Cost) {x y : Next} → (s ≡ true → G (cond t u (costs 0 0)) x)
+    → (s ≡ false → G (costs 0 0) y) → G (cond (s && t) u (costs 0 0)) (cond s x y)
+first-test G true t u f g = f refl
+first-test G false t u f g = g refl
+
+last-test : (G : Cost → Next → Type 0) (t : Bool) (u : Cost) {x y : Next} → (t ≡ true → G u x) → (t ≡ false → G (costs 0 0) y)
+    → G (cond t u (costs 0 0)) (cond t x y)
+last-test G true u f g = f refl
+last-test G false u f g = g refl
+
+and-assoc : (s t u : Bool) → ((s && t) && u) ≡ (s && (t && u))
+and-assoc true t u = refl
+and-assoc false t u = refl
+
+module _ (P : Program) (R : Runner) (c : Control) (a : Account) (σ : Store) where
+  abbrev Costs : Cost → Next → Type 0
+  Costs x y = Paid x a (accountOf y)
+
+  fails : (b : Account) → Paid (costs 0 0) a b → (code n : ℕ) → Costs (costs 0 0) (fail code n c b σ)
+  unfolding failTo
+  fails b h code n = frames (c .frames)
+    where
+      frames : (fs : List Frame) → Costs (costs 0 0) (failTo fs code n c b σ)
+      frames [] = h
+      frames (f ∷ fs) = h
+
+  faulted : (code n : ℕ) → Costs (costs 0 0) (fail code n c a σ)
+  faulted = fails a (paid-none a)
+
+  target-cost : (l : Label) (t : Bool) (u : Cost) (x : Next) → Costs (cond t u (costs 0 0)) x
+      → Costs (cond (targetOk P a l && t) u (costs 0 0)) (checkTarget P l c a σ x)
+  target-cost l t u x h =
+      rw (and-assoc (P .flows (a .label) l) (P .flows l (a .clearance)) t)
+      (first-test Costs (P .flows (a .label) l) (P .flows l (a .clearance) && t) u
+      (λ _. first-test Costs (P .flows l (a .clearance)) t u (λ _. h) (λ _. faulted 24 0))
+      (λ _. faulted 23 0))
+
+  open-cost : (r : Control) (x : Slot) → Costs (costs 0 0) (openSlot P c r a σ x)
+  unfolding openSlot yield
+  open-cost r Empty = faulted 33 0
+  open-cost r (Full x) =
+      cond-one (Costs (costs 0 0)) (P .flows (P .join (a .label) (x .label)) (a .clearance)) (λ _. contents (x .contents)) (λ _. faulted 24 0)
+    where
+      same : Paid (costs 0 0) a (raised P (x .label) a)
+      same = record { steps = omega arith; next = omega arith; limit = refl; depth = refl }
+
+      contents : (y : Contents) → Costs (costs 0 0) (yield c r (raised P (x .label) a) σ y)
+      contents (Holds d) = same
+      contents (Fault code n) = fails (raised P (x .label) a) same code n
+
+  label-cost : (r : Control) (x : Slot) → Costs (costs 0 0) (labelSlot c r a σ x)
+  unfolding labelSlot
+  label-cost r Empty = faulted 33 0
+  label-cost r (Full x) = paid-none a
+
+  write-cost : (r : Control) (p : ℕ) (d : Datum) (x : Slot) → Costs (costs 0 0) (writeSlot P c r a σ p d x)
+  unfolding writeSlot
+  write-cost r p d Empty = faulted 33 0
+  write-cost r p d (Full x) =
+      cond-one (Costs (costs 0 0)) (P .flows (a .label) (x .label))
+      (λ _. cond-one (Costs (costs 0 0)) (P .flows (x .label) (a .clearance)) (λ _. paid-none a) (λ _. faulted 24 0))
+      (λ _. faulted 23 0)
+
+  act-cost : (r : Control) (q : Request) → Costs (cost P a q) (act P R c r a σ q)
+  unfolding act cost
+  act-cost r none = paid-none a
+  act-cost r (ends d) = paid-none a
+  act-cost r (throws n) = faulted 30 n
+  act-cost r (raises l) =
+      cond-one (Costs (costs 0 0)) (P .flows (P .join (a .label) l) (a .clearance))
+      (λ _. record { steps = omega arith; next = omega arith; limit = refl; depth = refl }) (λ _. faulted 24 0)
+  act-cost r (lowers l) =
+      cond-one (Costs (costs 0 0)) (P .flows (a .label) l && P .flows l (a .clearance))
+      (λ _. record { steps = omega arith; next = omega arith; limit = refl; depth = refl }) (λ _. faulted 25 0)
+  act-cost r (labels p) = label-cost r (at σ p)
+  act-cost r (opens p) = open-cost r (at σ p)
+  act-cost r (makes h l d) =
+      target-cost l (ltb (a .next) (a .limit)) (costs 0 1) _
+      (last-test Costs (ltb (a .next) (a .limit)) (costs 0 1)
+      (λ _. record { steps = omega arith; next = refl; limit = refl; depth = refl }) (λ _. faulted 26 0))
+  act-cost r (writes p d) = write-cost r p d (at σ p)
+  act-cost r (blocks b t n k) =
+      target-cost b (ltb (a .depth) 8 && (leb n (a .steps) && leb (a .next + 1 + k) (a .limit))) (costs n (k + 1)) _
+      (first-test Costs (ltb (a .depth) 8) (leb n (a .steps) && leb (a .next + 1 + k) (a .limit)) (costs n (k + 1))
+      (λ _. first-test Costs (leb n (a .steps)) (leb (a .next + 1 + k) (a .limit)) (costs n (k + 1))
+      (λ e. last-test Costs (leb (a .next + 1 + k) (a .limit)) (costs n (k + 1))
+      (λ _. record { steps = omega (arith, leb-le n (a .steps) e); next = omega arith; limit = refl; depth = refl })
+      (λ _. faulted 26 0))
+      (λ _. faulted 27 0))
+      (λ _. faulted 28 0))
+
+  perform-cost : (q : Plan) → Costs (planCost P a q) (perform P R c a σ q)
+  unfolding perform
+  perform-cost (faults code) = faulted code 0
+  perform-cost (asks r q) = act-cost r q
+
+-- An instruction, its own step paid, costs what `nextCost` says, whatever the runner of blocks does.
+pub step-cost : (P : Program) (R : Runner) (c : Control) (a : Account) (σ : Store) → Paid (nextCost P c a) a (accountOf (step P R c a σ))
+unfolding step
+step-cost P R c a σ = perform-cost P R (jump (P .after (c .pc)) c) a σ (plan P a (jump (P .after (c .pc)) c) (P .fetch (c .pc)))
+
+-- with its own step
+pub instruction-cost : (P : Program) (R : Runner) (c : Control) (a : Account) (σ : Store) (n : ℕ) → a .steps ≡ suc n
+    → accountOf (step P R c (withSteps n a) σ) .steps + (1 + nextCost P c (withSteps n a) .steps) ≡ a .steps
+instruction-cost P R c a σ n e = omega (arith, step-cost P R c (withSteps n a) σ .steps)

@@ -1,0 +1,158 @@
+-- Every state that a run comes to, in itself or in the body of a block: the code goes on only where N holds, and no handle is
+-- to an empty place. So the definition's totals, an END past the code and fault 33 of an empty place, are never met.
+use mathlib.Core.Bool.{Bool, true, true≢false}
+use mathlib.Core.Logic.{_≢_}
+use mathlib.Core.Path.{_≡_, ap, subst}
+use Prim.Native.Nat.{ℕ, suc, _+_, _≤_}
+use native.Mathlib.Omega.{arith}
+use Rattle.labels.specs.declared.Label.{Label}
+use Rattle.model.specs.State.{Control, Account, Store, Program, at, jump, withSteps}
+use Rattle.model.specs.Operands.{Request, none, ends, throws, raises, lowers, labels, opens, makes, writes, blocks, Plan, asks, plan}
+use Rattle.model.specs.Effects.{Next, go, stop, bodyControl, bodyAccount}
+use Rattle.model.specs.Running.{step, runs}
+use Rattle.model.specs.declared.Slot.the-variants.{Empty}
+use Rattle.model.proofs.Effects.{accountOf, storeOf}
+use Rattle.model.proofs.Kept.{LowSet, shell, Fresh, RunnerKept, run-kept, step-kept}
+use Rattle.model.proofs.Plans.{Reach, InRequest, InPlan, plan-in}
+use Rattle.model.proofs.LowEquivalence.{Twin, LowEquivalent, LowNext, goes, stops, parts}
+use Rattle.model.proofs.TwoSteps.{step-two}
+use Rattle.model.proofs.TwoRuns.{two-runs}
+use Rattle.model.proofs.Landing.{Lands, Handlers, PlanLands, NextLands, plan-lands, step-lands}
+
+-- ── the statement ──
+
+-- the script's part with its pc behind the instruction, and the plan of that instruction
+abbrev pub behind : Program → Control → Control
+behind P c = jump (P .after (c .pc)) c
+
+abbrev pub nextPlan : Program → Control → Account → Plan
+nextPlan P c a = plan P a (behind P c) (P .fetch (c .pc))
+
+-- the states that a run from c₀, a₀, σ₀ comes to: by an instruction, its step paid; and at the start of the body of a block
+-- for which there are places
+pub data Reached (P : Program) (c₀ : Control) (a₀ : Account) (σ₀ : Store) : Control → Account → Store → Type 0 where
+  here : Reached P c₀ a₀ σ₀ c₀ a₀ σ₀
+  next : {c d : Control} {a b : Account} {σ τ : Store} (n : ℕ) → Reached P c₀ a₀ σ₀ c a σ → a .steps ≡ suc n
+      → step P (runs P) c (withSteps n a) σ ≡ go d b τ → Reached P c₀ a₀ σ₀ d b τ
+  body : {c r : Control} {a : Account} {σ : Store} (n : ℕ) (l : Label) (t m k : ℕ) → Reached P c₀ a₀ σ₀ c a σ → a .steps ≡ suc n
+      → nextPlan P c (withSteps n a) ≡ asks r (blocks l t m k) → a .next + 1 + k ≤ a .limit
+      → Reached P c₀ a₀ σ₀ (bodyControl t r) (bodyAccount m k (withSteps n a)) σ
+
+-- the place that a request reads or writes holds a record
+abbrev pub Holds : Store → Request → Type 0
+Holds σ none = Unit {0}
+Holds σ (ends d) = Unit {0}
+Holds σ (throws n) = Unit {0}
+Holds σ (raises l) = Unit {0}
+Holds σ (lowers l) = Unit {0}
+Holds σ (labels p) = at σ p ≢ Empty
+Holds σ (opens p) = at σ p ≢ Empty
+Holds σ (makes h l d) = Unit {0}
+Holds σ (writes p d) = at σ p ≢ Empty
+Holds σ (blocks b t n k) = Unit {0}
+
+-- ── the proof ──
+
+full : (σ : Store) (p : ℕ) → Twin σ σ p → at σ p ≢ Empty
+unfolding shell
+full σ p t e = t .0 (ap shell e)
+
+holds-in : (σ : Store) (q : Request) → InRequest (Twin σ σ) q → Holds σ q
+holds-in σ none i = tt
+holds-in σ (ends d) i = tt
+holds-in σ (throws n) i = tt
+holds-in σ (raises l) i = tt
+holds-in σ (lowers l) i = tt
+holds-in σ (labels p) i = full σ p i
+holds-in σ (opens p) i = full σ p i
+holds-in σ (makes h l d) i = tt
+holds-in σ (writes p d) i = full σ p (i .0)
+holds-in σ (blocks b t n k) i = tt
+
+-- every label is seen: the two-run theorem of a run and itself
+abbrev pub all : Label → Bool
+all l = true
+
+module _ (P : Program) (D : LowSet P all) (N : ℕ → Type 0) (sound : (pc : ℕ) → N pc → Lands N (P .after pc) (P .fetch pc)) where
+  -- of a store: no handle in it is to an empty place
+  abbrev pub Closed : Store → Type 0
+  Closed σ = LowEquivalent P all σ σ
+
+  pub record Safe (c : Control) (a : Account) (σ : Store) : Type 0 where
+    pub at-start : N (c .pc)
+    pub handlers : Handlers N (c .frames)
+    pub fresh : Fresh a σ
+    pub reach : Reach (Twin σ σ) c
+    pub closed : Closed σ
+
+  runs-kept : RunnerKept P all D (runs P)
+  unfolding runs
+  runs-kept c a σ = run-kept P all D (a .steps) c a σ
+
+  -- what the two-run theorem says of two states of one run
+  abbrev Both : Next → Next → Type 0
+  Both (go c a σ) (go d b τ) = Reach (Twin σ τ) c × LowEquivalent P all σ τ
+  Both (go c a σ) (stop e b τ) = Unit {0}
+  Both (stop e a σ) y = Unit {0}
+
+  both : (x y : Next) → LowNext P all x y → Both x y
+  both x y (goes g s) = (g, s)
+  both x y (stops o s) = tt
+  both x y (parts u v s) = absurd (true≢false u)
+
+  safe-behind : (c : Control) (a : Account) (σ : Store) → Safe c a σ → Reach (Twin σ σ) (behind P c)
+  safe-behind c a σ s = record { stack = s .reach .stack; locals = s .reach .locals }
+
+  safe-next : (c d : Control) (a b : Account) (σ τ : Store) → Safe c a σ → step P (runs P) c a σ ≡ go d b τ → Safe d b τ
+  safe-next c d a b σ τ s e =
+      record {
+        at-start = lands .0;
+        handlers = lands .1;
+        fresh = subst (λ (x : Next). Fresh (accountOf x) (storeOf x)) e (step-kept P all D (runs P) runs-kept c a σ (s .fresh) .fresh);
+        reach = two .0;
+        closed = two .1;
+      }
+    where
+      lands : NextLands N (go d b τ)
+      lands = subst (NextLands N) e (step-lands N P (runs P) c a σ (sound (c .pc) (s .at-start)) (s .handlers))
+
+      two : Both (go d b τ) (go d b τ)
+      two = both (go d b τ) (go d b τ)
+          (subst (λ (x : Next). LowNext P all x x) e
+          (step-two P all D (runs P) runs-kept (two-runs P all D) c a σ σ (s .fresh) (s .fresh) (s .reach) (s .closed)))
+
+  -- its step paid, a state is as safe
+  safe-paid : (c : Control) (a : Account) (σ : Store) (n : ℕ) → Safe c a σ → Safe c (withSteps n a) σ
+  safe-paid c a σ n s = record { at-start = s .at-start; handlers = s .handlers; fresh = s .fresh; reach = s .reach; closed = s .closed }
+
+  safe-body : (c r : Control) (a : Account) (σ : Store) (l : Label) (t m k : ℕ) → Safe c a σ → nextPlan P c a ≡ asks r (blocks l t m k)
+      → a .next + 1 + k ≤ a .limit → Safe (bodyControl t r) (bodyAccount m k a) σ
+  safe-body c r a σ l t m k s e le =
+      record {
+        at-start = lands .0 .0;
+        handlers = tt;
+        fresh = λ p i. s .fresh p (omega arith);
+        reach = record { stack = tt; locals = in-plan .0 .locals };
+        closed = s .closed;
+      }
+    where
+      lands : PlanLands N (asks r (blocks l t m k))
+      lands = subst (PlanLands N) e (plan-lands N P a (behind P c) (P .fetch (c .pc)) (sound (c .pc) (s .at-start)) (s .handlers))
+
+      in-plan : InPlan (Twin σ σ) (asks r (blocks l t m k))
+      in-plan = subst (InPlan (Twin σ σ)) e (plan-in (Twin σ σ) P a (s .closed .inputs) (behind P c) (safe-behind c a σ s) (P .fetch (c .pc)))
+
+  pub reached-safe : (c₀ : Control) (a₀ : Account) (σ₀ : Store) → Safe c₀ a₀ σ₀ → (c : Control) (a : Account) (σ : Store)
+      → Reached P c₀ a₀ σ₀ c a σ → Safe c a σ
+  reached-safe c₀ a₀ σ₀ s c a σ here = s
+  reached-safe c₀ a₀ σ₀ s d b τ (next {c = c} {a = a} {σ = σ} n h e f) =
+      safe-next c d (withSteps n a) b σ τ (safe-paid c a σ n (reached-safe c₀ a₀ σ₀ s c a σ h)) f
+  reached-safe c₀ a₀ σ₀ s d b τ (body {c = c} {r = r} {a = a} {σ = σ} n l t m k h e f le) =
+      safe-body c r (withSteps n a) σ l t m k (safe-paid c a σ n (reached-safe c₀ a₀ σ₀ s c a σ h)) f le
+
+  -- the request of the next instruction finds a record where it looks for one
+  pub safe-holds : (c : Control) (a : Account) (σ : Store) → Safe c a σ → (b : Account) (r : Control) (q : Request)
+      → nextPlan P c b ≡ asks r q → Holds σ q
+  safe-holds c a σ s b r q e =
+      holds-in σ q
+      (subst (InPlan (Twin σ σ)) e (plan-in (Twin σ σ) P b (s .closed .inputs) (behind P c) (safe-behind c a σ s) (P .fetch (c .pc))) .1)

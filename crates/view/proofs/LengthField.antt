@@ -1,0 +1,59 @@
+-- "A view is as many bytes as its length field says": 62 and 36 for each record shown.
+use mathlib.Core.Bool.{Bool}
+use mathlib.Core.List.{List, [], _∷_, _++_, append-assoc}
+use mathlib.Core.Path.{_≡_, refl, sym, ap, ap₂, _∙_}
+use Prim.Native.Nat.{ℕ, _+_, _*_, _/_, _%_, _≤_, _<_}
+use native.Mathlib.Omega.{arith}
+use lib.ListN.{length}
+use lib.Seq.{getD-append-add}
+use Rattle.labels.specs.declared.Label.{Label}
+use Rattle.model.specs.State.{Account, Store, Outcome}
+use Rattle.model.specs.Decoding.{byte, u16}
+use Rattle.model.specs.declared.Slot.{Slot}
+use Rattle.model.specs.declared.Slot.the-variants.{Empty, Full}
+use Rattle.model.specs.declared.Ending.{Ending}
+use Rattle.view.specs.Layout.{littleEndian, shown, recordFields, one, recordsShown, recordsAt, counts, final, viewLength, view}
+use Rattle.view.proofs.Widths.{length-counts, length-view}
+
+-- behind the first three numbers
+behind : (Reads : Label → Bool) (s : ℕ) (e : Ending) (a : Account) (bs : List ℕ) (i : ℕ) → byte (counts Reads s e a ++ bs) (6 + i) ≡ byte bs i
+behind Reads s e a bs i =
+    ap (λ (n : ℕ). byte (counts Reads s e a ++ bs) (n + i)) (sym (length-counts Reads s e a)) ∙ getD-append-add (counts Reads s e a) bs i 0
+
+small : (n : ℕ) → n < 65536 → n % 256 + 256 * (n / 256 % 256) ≡ n
+small n lt = omega arith
+
+-- what stands there: records shown, 62, length, and the rest
+abbrev tail : (Label → Bool) → Outcome → List ℕ
+tail Reads o =
+    littleEndian 2 (recordsShown Reads (o .store))
+    ++ (littleEndian 2 recordsAt
+    ++ (littleEndian 2 (viewLength Reads (o .store)) ++ (final Reads (o .ending) (o .account) ++ recordFields Reads 0 (o .store))))
+
+view-tail : (Reads : Label → Bool) (s : ℕ) (o : Outcome) → view Reads s o ≡ counts Reads s (o .ending) (o .account) ++ tail Reads o
+unfolding view
+view-tail Reads s o = simp append-assoc refl
+
+-- The sixth number of a view is its length.
+pub length-field : (Reads : Label → Bool) (s : ℕ) (o : Outcome) → viewLength Reads (o .store) < 65536
+    → u16 (view Reads s o) 10 ≡ length (view Reads s o)
+unfolding u16 littleEndian
+length-field Reads s o lt =
+    ap (λ (v : List ℕ). u16 v 10) (view-tail Reads s o)
+    ∙ ap₂ (λ (x y : ℕ). x + 256 * y) (behind Reads s (o .ending) (o .account) (tail Reads o) 4) (behind Reads s (o .ending) (o .account) (tail Reads o) 5)
+    ∙ small (viewLength Reads (o .store)) lt ∙ sym (length-view Reads s o)
+
+one-most : (x : Slot) → one x ≤ 1
+one-most Empty = omega arith
+one-most (Full x) = omega arith
+
+-- no more records are shown than there are places
+pub shown-most : (Reads : Label → Bool) (σ : Store) → recordsShown Reads σ ≤ length σ
+unfolding recordsShown
+shown-most Reads [] = omega arith
+shown-most Reads (x ∷ σ) = omega (arith, one-most (shown Reads x), shown-most Reads σ)
+
+pub length-field-places : (Reads : Label → Bool) (s : ℕ) (o : Outcome) → length (o .store) ≤ 256
+    → u16 (view Reads s o) 10 ≡ length (view Reads s o)
+unfolding viewLength
+length-field-places Reads s o le = length-field Reads s o (omega (arith, shown-most Reads (o .store)))
