@@ -13,6 +13,7 @@ use Rattle.view.specs.Writing.{over}
 pub record Writing (whole left b₀ b : List ℕ) (i : ℕ) : Type 0 where
   pub room : i ≤ length b
   pub same : length b ≡ length b₀
+  pub count : i + length left ≡ length whole
   pub rest : over whole b₀ ≡ take i b ++ over left (drop i b)
 
 -- the part of b from i on, and b once that part has come back as ys
@@ -22,8 +23,14 @@ part i b = take (length b - i) (drop i b)
 abbrev pub back : ℕ → List ℕ → List ℕ → List ℕ
 back i b ys = take i b ++ (ys ++ drop (length b - i) (drop i b))
 
+pub part-drop : (i : ℕ) (b : List ℕ) → part i b ≡ drop i b
+part-drop i b = take-all (length b - i) (drop i b) (rw length-drop (omega arith))
+
 pub start : (whole left b : List ℕ) → left ≡ whole → Writing whole left b b 0
-start whole left b e = record { room = omega arith; same = refl; rest = ap (λ (v : List ℕ). over v b) (sym e) }
+start whole left b e = record { room = omega arith; same = refl; count = let f = ap length e in omega arith; rest = ap (λ (v : List ℕ). over v b) (sym e) }
+
+pub ends-at : {whole left b₀ b : List ℕ} {i : ℕ} → Writing whole left b₀ b i → left ≡ [] → i ≡ length whole
+ends-at {left = left} w e = let f : length left ≡ 0 = ap length e in omega (arith, w .count)
 
 pub ends : {whole left b₀ b : List ℕ} {i : ℕ} → Writing whole left b₀ b i → left ≡ [] → b ≡ over whole b₀
 unfolding over
@@ -34,7 +41,13 @@ module _ {whole left b₀ b : List ℕ} {i : ℕ} (w : Writing whole left b₀ b
   more : (xs l : List ℕ) → left ≡ xs ++ l → (n : ℕ) → length xs ≡ n → i + n ≤ length b₀
       → (b′ : List ℕ) → b′ ≡ take i b ++ over xs (drop i b) → Writing whole l b₀ b′ (i + n)
   unfolding over
-  more xs l d n e h b′ q = record { room = omega (arith, long); same = long ∙ w .same; rest = w .rest ∙ whole-rest }
+  more xs l d n e h b′ q =
+      record {
+        room = omega (arith, long);
+        same = long ∙ w .same;
+        count = let f = ap length d ∙ length-append xs l in omega (arith, w .count);
+        rest = w .rest ∙ whole-rest;
+      }
     where
       front : length (take i b ++ xs) ≡ i + n
       front = length-append (take i b) xs ∙ ap₂ (λ (x y : ℕ). x + y) (length-take-le i b (w .room)) e
@@ -74,16 +87,17 @@ module _ {whole left b₀ b : List ℕ} {i : ℕ} (w : Writing whole left b₀ b
   pub room-for : (n : ℕ) → i + n ≤ length b₀ → n ≤ length (part i b)
   room-for n h = simp (length-take, length-drop) (omega (arith, w .same))
 
+  -- there is room for the next n bytes
+  pub room-next : length whole ≤ length b₀ → (xs l : List ℕ) → left ≡ xs ++ l → (n : ℕ) → length xs ≡ n → i + n ≤ length b₀
+  room-next h xs l d n e = let f = ap length d ∙ length-append xs l in omega (arith, w .count)
+
   -- the part from i on is lent, and comes back as ys, with xs over its start
   pub piece : (xs l : List ℕ) → left ≡ xs ++ l → (n : ℕ) → length xs ≡ n → i + n ≤ length b₀
       → (ys : List ℕ) → ys ≡ over xs (part i b) → Writing whole l b₀ (back i b ys) (i + n)
   piece xs l d n e h ys r =
       more xs l d n e h (back i b ys)
-      (ap₂ (λ (y z : List ℕ). take i b ++ (y ++ z)) (r ∙ ap (over xs) all) none ∙ ap (λ (y : List ℕ). take i b ++ y) (append-nil _))
+      (ap₂ (λ (y z : List ℕ). take i b ++ (y ++ z)) (r ∙ ap (over xs) (part-drop i b)) none ∙ ap (λ (y : List ℕ). take i b ++ y) (append-nil _))
     where
-      all : part i b ≡ drop i b
-      all = take-all (length b - i) (drop i b) (rw length-drop (omega arith))
-
       none : drop (length b - i) (drop i b) ≡ []
       none = drop-of-length-le (drop i b) {i = length b - i} (let z = length-drop i b in omega arith)
 

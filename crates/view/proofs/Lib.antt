@@ -2,3 +2,4 @@
 pub mod Buffers
 pub mod Widths
 pub mod Places
+pub mod Printing

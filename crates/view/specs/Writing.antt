@@ -27,5 +27,6 @@ finished f σ = record { ending = f .ending; account = closing f; store = σ }
 -- n is how many of the first w bytes there are
 pub record Cut (w : ℕ) (bytes : List ℕ) (n : ℕ) : Type 0 where
   pub within : n ≤ length bytes
+  pub few : n ≤ w
   pub taken : take n bytes ≡ take w bytes
   pub dropped : drop n bytes ≡ drop w bytes

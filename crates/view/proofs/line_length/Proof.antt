@@ -1,3 +1,7 @@
+-- `view::line_length` meets its contract. Assumes nothing.
+use mathlib.Core.Path.{_≡_, refl, sym, ap, ap₂, _∙_}
+use native.Mathlib.Omega.{arith}
+use Rattle.view.proofs.Printing.{length-line}
 use borrow.Author.Needs.{needs}
 use Rattle.view.proofs.line_length.Statement.{statement}
 use Rattle.view.proofs.line_length.Tie as tie
@@ -6,41 +10,32 @@ use Rattle.view.proofs.line_length.Lts as lts
 use Rattle.view.proofs.cut.Reads as cut-reads
 use Rattle.view.proofs.number_at.Reads as number-at-reads
 
--- src/lib.rt:432:9
 number-at-requires : tie.Need-number-at-requires
 number-at-requires c κs = search needs
 
--- src/lib.rt:433:10
 mul-result : tie.Need-mul-result
 mul-result c = search needs
 
--- src/lib.rt:433:5
 add-result : tie.Need-add-result
 add-result c = search needs
 
--- src/lib.rt:433:36
 mul-cut : tie.Need-mul-cut
 mul-cut c = search needs
 
--- src/lib.rt:433:26
 add-cut : tie.Need-add-cut
 add-cut c = search needs
 
--- src/lib.rt:433:22
 cut-requires : tie.Need-cut-requires
 cut-requires c κs = search needs
 
--- src/lib.rt:433:18
 mul-result-2 : tie.Need-mul-result-2
 mul-result-2 c = search needs
 
--- src/lib.rt:433:5
 add-result-2 : tie.Need-add-result-2
-add-result-2 c = ?
+add-result-2 c = omega (arith, c .cut .ensures .few)
 
--- src/lib.rt:429:1
 returns : tie.Need-returns
-returns c = ?
+returns c = length-line (c .before .before .before .args .view .now) (c .before .number-at .result) (c .cut .result) (c .before .number-at .ensures .1) (c .cut .ensures)
 
 pub line-length-spec : {M : Type 1} → statement M
 line-length-spec =

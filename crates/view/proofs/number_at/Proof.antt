@@ -1,52 +1,48 @@
+-- `view::number_at` meets its contract. Assumes nothing.
+use mathlib.Core.Path.{_≡_, refl, sym, ap, ap₂, _∙_}
+use native.Mathlib.Omega.{arith}
+use Prim.Native.Nat.{ℕ, _+_, _-_, _*_, _≤_, _<_}
+use Rattle.model.specs.Decoding.{u16}
+use Rattle.view.proofs.Printing.{number-none, number-one}
 use borrow.Author.Needs.{needs}
 use Rattle.view.proofs.number_at.Statement.{statement}
 use Rattle.view.proofs.number_at.Tie as tie
 use Rattle.view.proofs.number_at.Reads as reads
 use Rattle.view.proofs.number_at.Lts as lts
 
--- src/lib.rt:339:9
 returns : tie.Need-returns
-returns c = ?
+returns c = (omega arith, number-none (c .before .args .bytes .now) (c .before .args .i) (omega arith))
 
--- src/lib.rt:341:15
 shared-slice-read-low : tie.Need-shared-slice-read-low
 shared-slice-read-low c = search needs
 
--- src/lib.rt:341:15
 cast-low : tie.Need-cast-low
-cast-low c = ?
+cast-low c = omega (arith, c .shared-slice-known .given (c .before .before .args .i))
 
--- src/lib.rt:342:23
 add-if2 : tie.Need-add-if2
 add-if2 c = search needs
 
--- src/lib.rt:343:9
 returns-2 : tie.Need-returns-2
-returns-2 c = ?
+returns-2 c = (omega (arith, c .before .shared-slice-known .given (c .before .before .before .args .i)), number-one (c .before .before .before .args .bytes .now) (c .before .before .before .args .i) (omega arith))
 
--- src/lib.rt:345:24
 add-result : tie.Need-add-result
 add-result c = search needs
 
--- src/lib.rt:345:18
 shared-slice-read-result : tie.Need-shared-slice-read-result
 shared-slice-read-result c = search needs
 
--- src/lib.rt:345:18
 cast-result : tie.Need-cast-result
-cast-result c = ?
+cast-result c = omega (arith, c .shared-slice-known2 .given (c .before .before .before .before .args .i + 1))
 
--- src/lib.rt:345:11
 mul-result : tie.Need-mul-result
-mul-result c = ?
+mul-result c = omega (arith, c .shared-slice-known2 .given (c .before .before .before .before .args .i + 1))
 
--- src/lib.rt:345:5
 add-result-2 : tie.Need-add-result-2
-add-result-2 c = ?
+add-result-2 c = omega (arith, c .before .before .shared-slice-known .given (c .before .before .before .before .args .i), c .shared-slice-known2 .given (c .before .before .before .before .args .i + 1))
 
--- src/lib.rt:334:1
 returns-3 : tie.Need-returns-3
-returns-3 c = ?
+unfolding u16
+returns-3 c = (omega (arith, c .before .before .shared-slice-known .given (c .before .before .before .before .args .i), c .shared-slice-known2 .given (c .before .before .before .before .args .i + 1)), refl)
 
 pub number-at-spec : {M : Type 1} → statement M
 number-at-spec =

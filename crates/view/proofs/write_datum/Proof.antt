@@ -63,8 +63,8 @@ returns-3 : tie.Need-returns-3
 unfolding datumField
 returns-3 c =
     c .before .before .write-value3 .ensures
-    ∙ ap (λ (v : List ℕ). over v (now (c .before .before .before .before .before .before .before .before .before .args .out))) (ap (λ (k : ℕ). valueField (3 + k) _ 0) (c .before .before .before .before .kind-byte .ensures)
-    ∙ sym (handle-field _ (c .before .before .before .before .before .before .d3 .given .0 .1 .0)) ∙ sym (ap datumField (c .before .before .before .before .before .before .d3 .given .1)))
+    ∙ ap (λ (v : List ℕ). over v (now (c .before .before .before .before .before .before .before .before .before .args .out))) (ap (λ (k : ℕ). valueField (3 + k) (c .before .before .before .before .before .before .d3 .given .0 .1 .0) 0) (c .before .before .before .before .kind-byte .ensures)
+    ∙ sym (handle-field (c .before .before .before .before .before .before .d3 .given .0 .0) (c .before .before .before .before .before .before .d3 .given .0 .1 .0)) ∙ sym (ap datumField (c .before .before .before .before .before .before .d3 .given .1)))
 
 pub write-datum-spec : {M : Type 1} → statement M
 write-datum-spec =

@@ -1,3 +1,10 @@
+-- `view::write_refused` meets its contract. Assumes nothing.
+use mathlib.Core.Path.{_≡_, refl, sym, ap, ap₂, _∙_}
+use mathlib.Core.List.{List, [], _∷_, _++_}
+use native.Mathlib.Omega.{arith}
+use Prim.Native.Nat.{ℕ, _+_, _-_, _*_, _≤_, _<_}
+use Rattle.view.specs.Lines.{refusedLine}
+use Rattle.view.proofs.Buffers.{first, last}
 use borrow.Author.Needs.{needs}
 use Rattle.view.proofs.write_refused.Statement.{statement}
 use Rattle.view.proofs.write_refused.Tie as tie
@@ -6,41 +13,36 @@ use Rattle.view.proofs.write_refused.Lts as lts
 use Rattle.view.proofs.write_bytes.Reads as write-bytes-reads
 use Rattle.view.proofs.write_pair.Reads as write-pair-reads
 
--- src/lib.rt:470:17
 slice-aggregate-write-bytes : tie.Need-slice-aggregate-write-bytes
 slice-aggregate-write-bytes c = search needs
 
--- src/lib.rt:470:5
 write-bytes-requires : tie.Need-write-bytes-requires
 write-bytes-requires c κs = search needs
 
--- src/lib.rt:471:16
 add-write-pair : tie.Need-add-write-pair
 add-write-pair c = search needs
 
--- src/lib.rt:471:33
 sub-write-pair : tie.Need-sub-write-pair
 sub-write-pair c = search needs
 
--- src/lib.rt:471:33
 part-write-pair-start : tie.Need-part-write-pair-start
 part-write-pair-start c = search needs
 
--- src/lib.rt:471:33
 part-write-pair-end : tie.Need-part-write-pair-end
 part-write-pair-end c = search needs
 
--- src/lib.rt:471:5
 write-pair-requires : tie.Need-write-pair-requires
 write-pair-requires c κs = search needs
 
--- src/lib.rt:465:1
 same-length : tie.Need-same-length
 same-length c = search needs
 
--- src/lib.rt:465:1
 returns : tie.Need-returns
-returns c = ?
+unfolding refusedLine
+returns c =
+    let a = c .before .before .before .before .before .before .before .before .before .before .args in
+    last (first (refusedLine (a .n)) (0x72 ∷ 0x65 ∷ 0x66 ∷ 0x75 ∷ 0x73 ∷ 0x65 ∷ 0x64 ∷ 0x20 ∷ []) ((0x30 + a .n) ∷ 0x0A ∷ []) (a .out .now) refl 8 refl (omega arith) _ (c .before .before .before .before .before .before .write-bytes .ensures))
+    2 refl (omega arith) _ (c .before .before .write-pair .ensures)
 
 pub write-refused-spec : {M : Type 1} → statement M
 write-refused-spec =

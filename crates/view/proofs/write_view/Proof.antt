@@ -1,3 +1,14 @@
+-- `view::write_view` meets its contract. Assumes nothing.
+use mathlib.Core.Path.{_≡_, refl, sym, ap, ap₂, _∙_}
+use mathlib.Core.List.{List, [], _∷_, _++_}
+use native.Mathlib.Omega.{arith}
+use Prim.Native.Nat.{ℕ, _+_, _-_, _*_, _≤_, _<_}
+use lib.ListN.{length}
+use Rattle.store.specs.Slots.{slots}
+use Rattle.view.specs.Layout.{littleEndian, recordFields, recordsShown, counts, final, viewLength, view}
+use Rattle.view.specs.Writing.{closing, finished, reads as reading}
+use Rattle.view.proofs.Buffers.{first, piece, last}
+use Rattle.view.proofs.Widths.{length-number, length-counts, length-final, length-records, view-parts}
 use borrow.Author.Needs.{needs}
 use Rattle.view.proofs.write_view.Statement.{statement}
 use Rattle.view.proofs.write_view.Tie as tie
@@ -9,109 +20,121 @@ use Rattle.view.proofs.write_final.Reads as write-final-reads
 use Rattle.view.proofs.write_number.Reads as write-number-reads
 use Rattle.view.proofs.write_records.Reads as write-records-reads
 
--- src/lib.rt:317:9
 records-shown-requires : tie.Need-records-shown-requires
 records-shown-requires c κs = search needs
 
--- src/lib.rt:318:5
 write-counts-requires : tie.Need-write-counts-requires
-write-counts-requires c κs = ?
+unfolding viewLength
+write-counts-requires c κs = search needs
 
--- src/lib.rt:319:36
 sub-write-number : tie.Need-sub-write-number
-sub-write-number c = ?
+unfolding viewLength
+sub-write-number c = search needs
 
--- src/lib.rt:319:36
 part-write-number-start : tie.Need-part-write-number-start
-part-write-number-start c = ?
+unfolding viewLength
+part-write-number-start c = search needs
 
--- src/lib.rt:319:36
 part-write-number-end : tie.Need-part-write-number-end
 part-write-number-end c = search needs
 
--- src/lib.rt:319:5
 write-number-requires : tie.Need-write-number-requires
-write-number-requires c κs = ?
+unfolding viewLength
+write-number-requires c κs = search needs
 
--- src/lib.rt:320:42
 sub-write-number-2 : tie.Need-sub-write-number-2
-sub-write-number-2 c = ?
+unfolding viewLength
+sub-write-number-2 c = search needs
 
--- src/lib.rt:320:42
 part-write-number-start-2 : tie.Need-part-write-number-start-2
-part-write-number-start-2 c = ?
+unfolding viewLength
+part-write-number-start-2 c = search needs
 
--- src/lib.rt:320:42
 part-write-number-end-2 : tie.Need-part-write-number-end-2
 part-write-number-end-2 c = search needs
 
--- src/lib.rt:320:5
 write-number-requires-2 : tie.Need-write-number-requires-2
-write-number-requires-2 c κs = ?
+unfolding viewLength
+write-number-requires-2 c κs = search needs
 
--- src/lib.rt:321:29
 mul-write-number : tie.Need-mul-write-number
 mul-write-number c = search needs
 
--- src/lib.rt:321:19
 add-write-number : tie.Need-add-write-number
 add-write-number c = search needs
 
--- src/lib.rt:321:57
 sub-write-number-3 : tie.Need-sub-write-number-3
-sub-write-number-3 c = ?
+unfolding viewLength
+sub-write-number-3 c = search needs
 
--- src/lib.rt:321:57
 part-write-number-start-3 : tie.Need-part-write-number-start-3
-part-write-number-start-3 c = ?
+unfolding viewLength
+part-write-number-start-3 c = search needs
 
--- src/lib.rt:321:57
 part-write-number-end-3 : tie.Need-part-write-number-end-3
 part-write-number-end-3 c = search needs
 
--- src/lib.rt:321:5
 write-number-requires-3 : tie.Need-write-number-requires-3
-write-number-requires-3 c κs = ?
+unfolding viewLength
+write-number-requires-3 c κs = search needs
 
--- src/lib.rt:322:33
 sub-write-final : tie.Need-sub-write-final
-sub-write-final c = ?
+unfolding viewLength
+sub-write-final c = search needs
 
--- src/lib.rt:322:33
 part-write-final-start : tie.Need-part-write-final-start
-part-write-final-start c = ?
+unfolding viewLength
+part-write-final-start c = search needs
 
--- src/lib.rt:322:33
 part-write-final-end : tie.Need-part-write-final-end
 part-write-final-end c = search needs
 
--- src/lib.rt:322:5
 write-final-requires : tie.Need-write-final-requires
-write-final-requires c κs = ?
+unfolding viewLength
+write-final-requires c κs = search needs
 
--- src/lib.rt:323:34
 sub-write-records : tie.Need-sub-write-records
-sub-write-records c = ?
+unfolding viewLength
+sub-write-records c = search needs
 
--- src/lib.rt:323:34
 part-write-records-start : tie.Need-part-write-records-start
-part-write-records-start c = ?
+unfolding viewLength
+part-write-records-start c = search needs
 
--- src/lib.rt:323:34
 part-write-records-end : tie.Need-part-write-records-end
 part-write-records-end c = search needs
 
--- src/lib.rt:323:5
 write-records-requires : tie.Need-write-records-requires
-write-records-requires c κs = ?
+unfolding viewLength
+write-records-requires c κs =
+    let a = c .before .before .before .before .before .before .before .before .before .before .before .before .before .before .before .before .before .before .before .before .before .before .before .before .args in
+    let h : 62 + 36 * recordsShown (reading (a .reader)) (slots (a .store .now)) ≤ length (a .out .now) = c .before .before .before .before .before .before .before .before .before .before .before .before .before .before .before .before .before .before .before .before .before .before .before .before .pre .1 in
+    (c .before .before .before .before .before .before .before .before .before .before .before .before .before .before .before .before .before .before .before .before .before .before .before .before .pre .0, omega (arith, h))
 
--- src/lib.rt:312:1
 same-length : tie.Need-same-length
 same-length c = search needs
 
--- src/lib.rt:312:1
 returns : tie.Need-returns
-returns c = ?
+unfolding viewLength
+returns c =
+    let a = c .before .before .before .before .before .before .before .before .before .before .before .before .before .before .before .before .before .before .before .before .before .before .before .before .before .before .before .args in
+    let R = reading (a .reader) in
+    let f = a .finish in
+    let σ = slots (a .store .now) in
+    let h : 62 + 36 * recordsShown R σ ≤ length (a .out .now) = c .before .before .before .before .before .before .before .before .before .before .before .before .before .before .before .before .before .before .before .before .before .before .before .before .before .before .before .pre .1 in
+    let n = c .before .before .before .before .before .before .before .before .before .before .before .before .before .before .before .before .before .before .before .before .before .before .before .before .records-shown .result in
+    let e : n ≡ recordsShown R σ = c .before .before .before .before .before .before .before .before .before .before .before .before .before .before .before .before .before .before .before .before .before .before .before .before .records-shown .ensures .1 in
+    let closes = final R (f .ending) (closing f) in
+    let records = recordFields R 0 σ in
+    let first-part = first (view R (a .steps) (finished f σ)) (counts R (a .steps) (f .ending) (closing f)) (littleEndian 2 (recordsShown R σ) ++ (littleEndian 2 62 ++ (littleEndian 2 (62 + 36 * recordsShown R σ) ++ (closes ++ records)))) (a .out .now)
+        (view-parts R (a .steps) (finished f σ)) 6 (length-counts R (a .steps) (f .ending) (closing f)) (omega (arith, h)) _ (c .before .before .before .before .before .before .before .before .before .before .before .before .before .before .before .before .before .before .before .before .before .before .write-counts .ensures) in
+    let shown-part = piece first-part (littleEndian 2 n) (littleEndian 2 62 ++ (littleEndian 2 (62 + 36 * recordsShown R σ) ++ (closes ++ records)))
+        (ap (λ (k : ℕ). littleEndian 2 k ++ (littleEndian 2 62 ++ (littleEndian 2 (62 + 36 * recordsShown R σ) ++ (closes ++ records)))) (sym e)) 2 (length-number 2 n) (omega (arith, h)) _ (c .before .before .before .before .before .before .before .before .before .before .before .before .before .before .before .before .before .before .write-number .ensures) in
+    let start-part = piece shown-part (littleEndian 2 62) (littleEndian 2 (62 + 36 * recordsShown R σ) ++ (closes ++ records)) refl 2 (length-number 2 62) (omega (arith, h)) _ (c .before .before .before .before .before .before .before .before .before .before .before .before .before .before .write-number2 .ensures) in
+    let length-part = piece start-part (littleEndian 2 (62 + 36 * n)) (closes ++ records)
+        (ap (λ (k : ℕ). littleEndian 2 (62 + 36 * k) ++ (closes ++ records)) (sym e)) 2 (length-number 2 (62 + 36 * n)) (omega (arith, h)) _ (c .before .before .before .before .before .before .before .before .before .before .write-number3 .ensures) in
+    let final-part = piece length-part closes records refl 50 (length-final R 0 (f .ending) (closing f)) (omega (arith, h)) _ (c .before .before .before .before .before .before .write-final .ensures) in
+    last final-part (36 * recordsShown R σ) (length-records R 0 σ) h _ (c .before .before .write-records .ensures)
 
 pub write-view-spec : {M : Type 1} → statement M
 write-view-spec =
