@@ -81,11 +81,11 @@ spaced-here ws rest j n h k =
 pub length-field : (w : ℕ) (rest : List ℕ) (n : ℕ) → Cut w rest n → length (0x20 ∷ hex (take n rest)) ≡ 1 + 2 * n
 length-field w rest n k = let e = length-hex (take n rest) in let f = length-take-le n rest (k .within) in omega arith
 
--- the fields of the next of k + 1 records, of which n bytes are there
-pub record-here : (rest : List ℕ) (k n : ℕ) → Cut 36 rest n
-    → spaced (widths (suc k)) rest ≡ spaced recordFieldWidths rest ++ spaced (widths k) (drop n rest)
+-- the fields of the next of m records, k more of which follow
+pub record-here : (rest : List ℕ) (m k : ℕ) → m ≡ suc k
+    → spaced (widths m) rest ≡ spaced recordFieldWidths rest ++ spaced (widths k) (drop 36 rest)
 unfolding widths recordFieldWidths
-record-here rest k n c = spaced-append recordFieldWidths (widths k) rest ∙ ap (λ (v : List ℕ). spaced recordFieldWidths rest ++ spaced (widths k) v) (sym (c .dropped))
+record-here rest m k e = ap (λ (n : ℕ). spaced (widths n) rest) e ∙ spaced-append recordFieldWidths (widths k) rest
 
 -- ── the line ──
 

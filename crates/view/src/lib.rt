@@ -443,11 +443,11 @@ pub fn write_line(view: &[u8], out: &mut [u8]) -> usize
     let records = cut(RECORDS, view);
     let n = number_at(view, SHOWN);
     write_hex(&view[..first], out);
-    let a = 2 * first;
-    let b = a + write_fields(&front[1..], &view[first..], &mut out[a..]);
-    let c = b + write_record_fields(n, &view[records..], &mut out[b..]);
-    out[c] = b'\n';
-    c + 1
+    let middle = 2 * first;
+    let last = middle + write_fields(&front[1..], &view[first..], &mut out[middle..]);
+    let end = last + write_record_fields(n, &view[records..], &mut out[last..]);
+    out[end] = b'\n';
+    end + 1
 }
 
 fn write_bytes(bytes: &[u8], out: &mut [u8])
