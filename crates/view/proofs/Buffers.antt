@@ -101,6 +101,14 @@ module _ {whole left b₀ b : List ℕ} {i : ℕ} (w : Writing whole left b₀ b
       none : drop (length b - i) (drop i b) ≡ []
       none = drop-of-length-le (drop i b) {i = length b - i} (let z = length-drop i b in omega arith)
 
+  -- the same where there is room for the whole
+  pub next : length whole ≤ length b₀ → (xs l : List ℕ) → left ≡ xs ++ l → (n : ℕ) → n ≡ length xs → (ys : List ℕ) → ys ≡ over xs (part i b)
+      → Writing whole l b₀ (back i b ys) (i + n)
+  next h xs l d n e ys r = piece xs l d n (sym e) (room-next h xs l d n (sym e)) ys r
+
+  pub room-for-next : length whole ≤ length b₀ → (xs l : List ℕ) → left ≡ xs ++ l → length xs ≤ length (part i b)
+  room-for-next h xs l d = room-for (length xs) (room-next h xs l d (length xs) refl)
+
   -- the same of the last piece
   pub last : (n : ℕ) → length left ≡ n → i + n ≤ length b₀ → (ys : List ℕ) → ys ≡ over left (part i b) → back i b ys ≡ over whole b₀
   last n e h ys r = ends (piece left [] (sym (append-nil left)) n e h ys r) refl

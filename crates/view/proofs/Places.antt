@@ -65,7 +65,7 @@ module _ (Reads : Label → Bool) (l : List ℕ) where
     pub room-here : (r : Record) → shown Reads (at (slots l) p) ≡ Full r → i + recordWidth + recordWidth * recordsShown Reads (drop (p + 1) (slots l)) ≤ length b₀
     room-here r e =
         let f : recordsShown Reads (drop p (slots l)) ≡ 1 + recordsShown Reads (drop (p + 1) (slots l)) =
-            count-here p h ∙ ap (λ (x : Slot). one x + recordsShown Reads (drop (p + 1) (slots l))) e
+        count-here p h ∙ ap (λ (x : Slot). one x + recordsShown Reads (drop (p + 1) (slots l))) e
         in
         omega (arith, w .room)
 
@@ -88,10 +88,10 @@ module _ (Reads : Label → Bool) (l : List ℕ) where
     unfolding slotField
     hidden-here e =
         let f : recordsShown Reads (drop p (slots l)) ≡ recordsShown Reads (drop (p + 1) (slots l)) =
-            count-here p h ∙ ap (λ (x : Slot). one x + recordsShown Reads (drop (p + 1) (slots l))) e ∙ zero-add _
+        count-here p h ∙ ap (λ (x : Slot). one x + recordsShown Reads (drop (p + 1) (slots l))) e ∙ zero-add _
         in
         let g : recordFields Reads p (drop p (slots l)) ≡ recordFields Reads (p + 1) (drop (p + 1) (slots l)) =
-            fields-here p h ∙ ap (λ (x : Slot). slotField p x ++ recordFields Reads (p + 1) (drop (p + 1) (slots l))) e
+        fields-here p h ∙ ap (λ (x : Slot). slotField p x ++ recordFields Reads (p + 1) (drop (p + 1) (slots l))) e
         in
         record {
           place = omega arith;

@@ -8,7 +8,8 @@ use lib.ListN.{length, getD, take, drop, length-append, length-take, length-drop
 use lib.Seq.{drop-cons, drop-drop, take-add, length-take-le}
 use Rattle.model.specs.Decoding.{u16}
 use Rattle.view.specs.Lines.{hexDigit, hex, frontFields, recordFieldWidths, widths, spaced, line}
-use Rattle.view.specs.Writing.{Cut}
+use Rattle.view.specs.Writing.{over, Cut}
+use Rattle.view.proofs.Buffers.{Writing, first, part, part-drop}
 
 -- ── the number of records ──
 
@@ -109,6 +110,18 @@ line-parts v k m c d =
     ap (λ (x : List ℕ). x ++ (0x0A ∷ [])) (spaced-first 2 (behindFirst ++ widths n) v ∙ ap (λ (x : List ℕ). hex (take 2 v) ++ x) rest)
     ∙ regroup (hex (take 2 v)) (spaced behindFirst (drop 2 v)) (spaced (widths n) (drop 62 v)) (0x0A ∷ [])
     ∙ sym (rw (c .taken, c .dropped, d .dropped))
+
+-- the first field is written
+pub first-field : (v b b′ : List ℕ) (k m n : ℕ) → Cut 2 v k → Cut 62 v m → n ≡ u16 v 6 → length (line v) ≤ length b → b′ ≡ over (hex (take k v)) b
+    → Writing (line v) (spaced behindFirst (part k v) ++ (spaced (widths n) (part m v) ++ (0x0A ∷ []))) b b′ (2 * k)
+first-field v b b′ k m n c d e h q =
+    first (line v) (hex (take k v)) _ b whole (2 * k) digits (let f = ap length whole ∙ length-append (hex (take k v)) _ in omega (arith, digits)) b′ q
+  where
+    whole : line v ≡ hex (take k v) ++ (spaced behindFirst (part k v) ++ (spaced (widths n) (part m v) ++ (0x0A ∷ [])))
+    whole = line-parts v k m c d ∙ rw (part-drop k v, part-drop m v, e)
+
+    digits : length (hex (take k v)) ≡ 2 * k
+    digits = length-hex (take k v) ∙ ap (λ (x : ℕ). 2 * x) (length-take-le k v (c .within))
 
 pub length-line : (v : List ℕ) (n r : ℕ) → n ≡ u16 v 6 → Cut (62 + 36 * n) v r → 13 + 7 * n + 2 * r ≡ length (line v)
 unfolding line frontFields

@@ -37,9 +37,11 @@ loop-less c = omega arith
 loop-again : tie.Need-loop-again Inv-loop μ-loop
 loop-again c =
     let l = c .before .before .loop in
-    let bs = c .before .before .before .args .bytes .now in
-    (omega arith, byte (l .inv .1) (getD bs (l .i) 0) (drop (l .i + 1) bs)
-    (drop-cons bs (l .i) 0 (omega arith) ∙ ap (λ (k : ℕ). getD bs (l .i) 0 ∷ drop k bs) (sym (add-one (l .i)))) (omega (arith, l .inv .1 .same)))
+    let bs = c .before .before .before .args .bytes .now in (
+      omega arith,
+      byte (l .inv .1) (getD bs (l .i) 0) (drop (l .i + 1) bs)
+          (drop-cons bs (l .i) 0 (omega arith) ∙ ap (λ (k : ℕ). getD bs (l .i) 0 ∷ drop k bs) (sym (add-one (l .i)))) (omega (arith, l .inv .1 .same)),
+    )
 
 same-length : tie.Need-same-length Inv-loop μ-loop
 same-length c = c .before .loop .inv .1 .same

@@ -69,7 +69,7 @@ returns c =
     let m = c .before .before .before .before .before .before .before .before .before .before .before .before .before .ending-number .result in
     let u = c .before .before .before .before .before .before .before .before .used .result in
     let ending = first (littleEndian 2 m ++ (littleEndian 2 u ++ littleEndian 2 (f .next))) (littleEndian 2 m) (littleEndian 2 u ++ littleEndian 2 (f .next)) b
-        refl 2 (length-number 2 m) (omega arith) _ (c .before .before .before .before .before .before .before .before .before .before .before .write-number .ensures) in
+    refl 2 (length-number 2 m) (omega arith) _ (c .before .before .before .before .before .before .before .before .before .before .before .write-number .ensures) in
     let steps = piece ending (littleEndian 2 u) (littleEndian 2 (f .next)) refl 2 (length-number 2 u) (omega arith) _ (c .before .before .before .before .before .before .write-number2 .ensures) in
     last steps 2 (length-number 2 (f .next)) (omega arith) _ (c .before .before .write-number3 .ensures)
     ∙ ap (λ (v : List ℕ). over v b) (ap₂ (λ (x y : ℕ). littleEndian 2 x ++ (littleEndian 2 y ++ littleEndian 2 (f .next))) (c .before .before .before .before .before .before .before .before .before .before .before .before .before .ending-number .ensures) (c .before .before .before .before .before .before .before .before .used .ensures)

@@ -62,7 +62,7 @@ returns c =
     let l = labelField (f .label) in
     let k = labelField (f .clearance) in
     let result = first (resultField (f .ending) ++ (l ++ k)) (resultField (f .ending)) (l ++ k) b
-        refl 18 (length-result (f .ending)) (omega arith) _ (c .before .before .before .before .before .before .before .before .before .before .write-result .ensures) in
+    refl 18 (length-result (f .ending)) (omega arith) _ (c .before .before .before .before .before .before .before .before .before .before .write-result .ensures) in
     let label = piece result l k refl 16 (length-label (f .label)) (omega arith) _ (c .before .before .before .before .before .before .write-label .ensures) in
     last label 16 (length-label (f .clearance)) (omega arith) _ (c .before .before .write-label2 .ensures)
     ∙ ap (λ (v : List ℕ). over v b) (sym (final-shown (reading (a .reader)) 0 (f .ending) (closing f) (sym (c .before .before .before .before .before .before .before .before .before .before .before .before .before .flows .ensures) ∙ c .before .before .before .before .before .before .before .before .before .before .before .before .if1 .taken)))

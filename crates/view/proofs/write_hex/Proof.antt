@@ -59,10 +59,13 @@ loop-again c =
     let l = c .before .before .before .before .before .before .before .before .loop in
     let bs = c .before .before .before .before .before .before .before .before .before .before .before .args .bytes .now in
     let x = c .before .before .before .before .before .hex-digit .result in
-    let y = c .before .before .before .before .hex-digit2 .result in
-    (omega arith, omega arith, piece (l .inv .2) (x ∷ y ∷ []) (hex (drop (l .i + 1) bs))
-    (hex-here bs (l .i) (omega arith) ∙ ap₂ (λ (u v : ℕ). u ∷ v ∷ hex (drop (l .i + 1) bs)) (sym (c .before .before .before .before .before .hex-digit .ensures)) (sym (c .before .before .before .before .hex-digit2 .ensures)))
-    2 refl (omega (arith, l .inv .1)) _ (c .before .before .write-pair .ensures))
+    let y = c .before .before .before .before .hex-digit2 .result in (
+      omega arith,
+      omega arith,
+      piece (l .inv .2) (x ∷ y ∷ []) (hex (drop (l .i + 1) bs))
+          (hex-here bs (l .i) (omega arith) ∙ ap₂ (λ (u v : ℕ). u ∷ v ∷ hex (drop (l .i + 1) bs)) (sym (c .before .before .before .before .before .hex-digit .ensures)) (sym (c .before .before .before .before .hex-digit2 .ensures)))
+          2 refl (omega (arith, l .inv .1)) _ (c .before .before .write-pair .ensures),
+    )
 
 same-length : tie.Need-same-length Inv-loop μ-loop
 same-length c = c .before .loop .inv .2 .same

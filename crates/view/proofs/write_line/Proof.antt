@@ -1,3 +1,13 @@
+-- `view::write_line` meets its contract. Assumes nothing.
+use mathlib.Core.Path.{_≡_, refl, sym, ap, ap₂, _∙_}
+use mathlib.Core.List.{List, [], _∷_, _++_}
+use native.Mathlib.Omega.{arith}
+use Prim.Native.Nat.{ℕ, _+_, _-_, _*_, _≤_, _<_}
+use lib.ListN.{length, take, drop, length-take, length-append}
+use lib.Seq.{length-take-le}
+use Rattle.view.specs.Lines.{hex, spaced, widths, line}
+use Rattle.view.proofs.Buffers.{part, next, byte, ends, ends-at, room-next, room-for-next}
+use Rattle.view.proofs.Printing.{behindFirst, first-field, length-hex, line-parts}
 use borrow.Author.Needs.{needs}
 use Rattle.view.proofs.write_line.Statement.{statement}
 use Rattle.view.proofs.write_line.Tie as tie
@@ -9,121 +19,240 @@ use Rattle.view.proofs.write_fields.Reads as write-fields-reads
 use Rattle.view.proofs.write_hex.Reads as write-hex-reads
 use Rattle.view.proofs.write_record_fields.Reads as write-record-fields-reads
 
--- src/lib.rt:442:9
 cut-requires : tie.Need-cut-requires
 cut-requires c κs = search needs
 
--- src/lib.rt:443:9
 cut-requires-2 : tie.Need-cut-requires-2
 cut-requires-2 c κs = search needs
 
--- src/lib.rt:444:9
 number-at-requires : tie.Need-number-at-requires
 number-at-requires c κs = search needs
 
--- src/lib.rt:445:15
 slice-aggregate-write-hex : tie.Need-slice-aggregate-write-hex
-slice-aggregate-write-hex c = ?
+slice-aggregate-write-hex c = sym (length-take-le _ (c .before .before .before .before .before .before .args .view .now) (c .before .before .before .cut .ensures .within))
 
--- src/lib.rt:445:5
 write-hex-requires : tie.Need-write-hex-requires
-write-hex-requires c κs = ?
+write-hex-requires c κs =
+    let v = c .before .before .before .before .before .before .before .args .view .now in
+    let k = c .before .before .before .before .cut in
+    let m = c .before .before .before .cut2 in
+    let e = ap length (line-parts v (k .result) (m .result) (k .ensures) (m .ensures)) ∙ length-append (hex (take (k .result) v)) _ in
+    omega (arith, c .before .before .before .before .before .before .before .pre, e, length-hex (take (k .result) v))
 
--- src/lib.rt:446:18
 mul-middle : tie.Need-mul-middle
 mul-middle c = search needs
 
--- src/lib.rt:447:38
 sub-write-fields : tie.Need-sub-write-fields
 sub-write-fields c = search needs
 
--- src/lib.rt:447:38
 part-write-fields-start : tie.Need-part-write-fields-start
 part-write-fields-start c = search needs
 
--- src/lib.rt:447:38
 part-write-fields-end : tie.Need-part-write-fields-end
 part-write-fields-end c = search needs
 
--- src/lib.rt:447:51
 sub-write-fields-2 : tie.Need-sub-write-fields-2
 sub-write-fields-2 c = search needs
 
--- src/lib.rt:447:51
 part-write-fields-start-2 : tie.Need-part-write-fields-start-2
 part-write-fields-start-2 c = search needs
 
--- src/lib.rt:447:51
 part-write-fields-end-2 : tie.Need-part-write-fields-end-2
 part-write-fields-end-2 c = search needs
 
--- src/lib.rt:447:67
 sub-write-fields-3 : tie.Need-sub-write-fields-3
-sub-write-fields-3 c = ?
+sub-write-fields-3 c =
+    let a = c .before .before .before .before .before .before .before .before .before .before .before .before .before .args in
+    let h = c .before .before .before .before .before .before .before .before .before .before .before .before .before .pre in
+    let k = c .before .before .before .before .before .before .before .before .before .before .cut in
+    let m = c .before .before .before .before .before .before .before .before .before .cut2 in
+    let n = c .before .before .before .before .before .before .before .before .number-at in
+    let fields = spaced behindFirst (part (k .result) (a .view .now)) in
+    let records = spaced (widths (n .result)) (part (m .result) (a .view .now)) in
+    let w1 = first-field (a .view .now) (a .out .now) _ (k .result) (m .result) (n .result) (k .ensures) (m .ensures) (n .ensures .1) h (c .before .before .before .before .before .write-hex .ensures) in
+    w1 .room
 
--- src/lib.rt:447:67
 part-write-fields-start-3 : tie.Need-part-write-fields-start-3
-part-write-fields-start-3 c = ?
+part-write-fields-start-3 c =
+    let a = c .before .before .before .before .before .before .before .before .before .before .before .before .before .args in
+    let h = c .before .before .before .before .before .before .before .before .before .before .before .before .before .pre in
+    let k = c .before .before .before .before .before .before .before .before .before .before .cut in
+    let m = c .before .before .before .before .before .before .before .before .before .cut2 in
+    let n = c .before .before .before .before .before .before .before .before .number-at in
+    let fields = spaced behindFirst (part (k .result) (a .view .now)) in
+    let records = spaced (widths (n .result)) (part (m .result) (a .view .now)) in
+    let w1 = first-field (a .view .now) (a .out .now) _ (k .result) (m .result) (n .result) (k .ensures) (m .ensures) (n .ensures .1) h (c .before .before .before .before .before .write-hex .ensures) in
+    omega (arith, w1 .room)
 
--- src/lib.rt:447:67
 part-write-fields-end-3 : tie.Need-part-write-fields-end-3
 part-write-fields-end-3 c = search needs
 
--- src/lib.rt:447:25
 write-fields-requires : tie.Need-write-fields-requires
-write-fields-requires c κs = ?
+write-fields-requires c κs =
+    let a = c .before .before .before .before .before .before .before .before .before .before .before .before .before .before .args in
+    let h = c .before .before .before .before .before .before .before .before .before .before .before .before .before .before .pre in
+    let k = c .before .before .before .before .before .before .before .before .before .before .before .cut in
+    let m = c .before .before .before .before .before .before .before .before .before .before .cut2 in
+    let n = c .before .before .before .before .before .before .before .before .before .number-at in
+    let fields = spaced behindFirst (part (k .result) (a .view .now)) in
+    let records = spaced (widths (n .result)) (part (m .result) (a .view .now)) in
+    let w1 = first-field (a .view .now) (a .out .now) _ (k .result) (m .result) (n .result) (k .ensures) (m .ensures) (n .ensures .1) h (c .before .before .before .before .before .before .write-hex .ensures) in
+    room-for-next w1 h fields (records ++ (0x0A ∷ [])) refl
 
--- src/lib.rt:447:16
 add-last : tie.Need-add-last
-add-last c = ?
+add-last c =
+    let a = c .before .before .before .before .before .before .before .before .before .before .before .before .before .before .before .before .before .args in
+    let h = c .before .before .before .before .before .before .before .before .before .before .before .before .before .before .before .before .before .pre in
+    let k = c .before .before .before .before .before .before .before .before .before .before .before .before .before .before .cut in
+    let m = c .before .before .before .before .before .before .before .before .before .before .before .before .before .cut2 in
+    let n = c .before .before .before .before .before .before .before .before .before .before .before .before .number-at in
+    let fields = spaced behindFirst (part (k .result) (a .view .now)) in
+    let records = spaced (widths (n .result)) (part (m .result) (a .view .now)) in
+    let w1 = first-field (a .view .now) (a .out .now) _ (k .result) (m .result) (n .result) (k .ensures) (m .ensures) (n .ensures .1) h (c .before .before .before .before .before .before .before .before .before .write-hex .ensures) in
+    let f = c .before .before .write-fields in
+    let w2 = next w1 h fields (records ++ (0x0A ∷ [])) refl (f .result) (f .ensures .0) _ (f .ensures .1) in
+    omega (arith, w2 .room, w2 .same)
 
--- src/lib.rt:448:45
 sub-write-record-fields : tie.Need-sub-write-record-fields
 sub-write-record-fields c = search needs
 
--- src/lib.rt:448:45
 part-write-record-fields-start : tie.Need-part-write-record-fields-start
 part-write-record-fields-start c = search needs
 
--- src/lib.rt:448:45
 part-write-record-fields-end : tie.Need-part-write-record-fields-end
 part-write-record-fields-end c = search needs
 
--- src/lib.rt:448:63
 sub-write-record-fields-2 : tie.Need-sub-write-record-fields-2
-sub-write-record-fields-2 c = ?
+sub-write-record-fields-2 c =
+    let a = c .before .before .before .before .before .before .before .before .before .before .before .before .before .before .before .before .before .before .args in
+    let h = c .before .before .before .before .before .before .before .before .before .before .before .before .before .before .before .before .before .before .pre in
+    let k = c .before .before .before .before .before .before .before .before .before .before .before .before .before .before .before .cut in
+    let m = c .before .before .before .before .before .before .before .before .before .before .before .before .before .before .cut2 in
+    let n = c .before .before .before .before .before .before .before .before .before .before .before .before .before .number-at in
+    let fields = spaced behindFirst (part (k .result) (a .view .now)) in
+    let records = spaced (widths (n .result)) (part (m .result) (a .view .now)) in
+    let w1 = first-field (a .view .now) (a .out .now) _ (k .result) (m .result) (n .result) (k .ensures) (m .ensures) (n .ensures .1) h (c .before .before .before .before .before .before .before .before .before .before .write-hex .ensures) in
+    let f = c .before .before .before .write-fields in
+    let w2 = next w1 h fields (records ++ (0x0A ∷ [])) refl (f .result) (f .ensures .0) _ (f .ensures .1) in
+    w2 .room
 
--- src/lib.rt:448:63
 part-write-record-fields-start-2 : tie.Need-part-write-record-fields-start-2
-part-write-record-fields-start-2 c = ?
+part-write-record-fields-start-2 c =
+    let a = c .before .before .before .before .before .before .before .before .before .before .before .before .before .before .before .before .before .before .args in
+    let h = c .before .before .before .before .before .before .before .before .before .before .before .before .before .before .before .before .before .before .pre in
+    let k = c .before .before .before .before .before .before .before .before .before .before .before .before .before .before .before .cut in
+    let m = c .before .before .before .before .before .before .before .before .before .before .before .before .before .before .cut2 in
+    let n = c .before .before .before .before .before .before .before .before .before .before .before .before .before .number-at in
+    let fields = spaced behindFirst (part (k .result) (a .view .now)) in
+    let records = spaced (widths (n .result)) (part (m .result) (a .view .now)) in
+    let w1 = first-field (a .view .now) (a .out .now) _ (k .result) (m .result) (n .result) (k .ensures) (m .ensures) (n .ensures .1) h (c .before .before .before .before .before .before .before .before .before .before .write-hex .ensures) in
+    let f = c .before .before .before .write-fields in
+    let w2 = next w1 h fields (records ++ (0x0A ∷ [])) refl (f .result) (f .ensures .0) _ (f .ensures .1) in
+    omega (arith, w2 .room)
 
--- src/lib.rt:448:63
 part-write-record-fields-end-2 : tie.Need-part-write-record-fields-end-2
 part-write-record-fields-end-2 c = search needs
 
--- src/lib.rt:448:22
 write-record-fields-requires : tie.Need-write-record-fields-requires
-write-record-fields-requires c κs = ?
+write-record-fields-requires c κs =
+    let a = c .before .before .before .before .before .before .before .before .before .before .before .before .before .before .before .before .before .before .before .args in
+    let h = c .before .before .before .before .before .before .before .before .before .before .before .before .before .before .before .before .before .before .before .pre in
+    let k = c .before .before .before .before .before .before .before .before .before .before .before .before .before .before .before .before .cut in
+    let m = c .before .before .before .before .before .before .before .before .before .before .before .before .before .before .before .cut2 in
+    let n = c .before .before .before .before .before .before .before .before .before .before .before .before .before .before .number-at in
+    let fields = spaced behindFirst (part (k .result) (a .view .now)) in
+    let records = spaced (widths (n .result)) (part (m .result) (a .view .now)) in
+    let w1 = first-field (a .view .now) (a .out .now) _ (k .result) (m .result) (n .result) (k .ensures) (m .ensures) (n .ensures .1) h (c .before .before .before .before .before .before .before .before .before .before .before .write-hex .ensures) in
+    let f = c .before .before .before .before .write-fields in
+    let w2 = next w1 h fields (records ++ (0x0A ∷ [])) refl (f .result) (f .ensures .0) _ (f .ensures .1) in
+    room-for-next w2 h records (0x0A ∷ []) refl
 
--- src/lib.rt:448:15
 add-end : tie.Need-add-end
-add-end c = ?
+add-end c =
+    let a = c .before .before .before .before .before .before .before .before .before .before .before .before .before .before .before .before .before .before .before .before .before .before .args in
+    let h = c .before .before .before .before .before .before .before .before .before .before .before .before .before .before .before .before .before .before .before .before .before .before .pre in
+    let k = c .before .before .before .before .before .before .before .before .before .before .before .before .before .before .before .before .before .before .before .cut in
+    let m = c .before .before .before .before .before .before .before .before .before .before .before .before .before .before .before .before .before .before .cut2 in
+    let n = c .before .before .before .before .before .before .before .before .before .before .before .before .before .before .before .before .before .number-at in
+    let fields = spaced behindFirst (part (k .result) (a .view .now)) in
+    let records = spaced (widths (n .result)) (part (m .result) (a .view .now)) in
+    let w1 = first-field (a .view .now) (a .out .now) _ (k .result) (m .result) (n .result) (k .ensures) (m .ensures) (n .ensures .1) h (c .before .before .before .before .before .before .before .before .before .before .before .before .before .before .write-hex .ensures) in
+    let f = c .before .before .before .before .before .before .before .write-fields in
+    let w2 = next w1 h fields (records ++ (0x0A ∷ [])) refl (f .result) (f .ensures .0) _ (f .ensures .1) in
+    let r = c .before .before .write-record-fields in
+    let w3 = next w2 h records (0x0A ∷ []) refl (r .result) (r .ensures .0) _ (r .ensures .1) in
+    let room = room-next w3 h (0x0A ∷ []) [] refl 1 refl in
+    omega (arith, room, c .before .before .before .before .before .before .before .before .before .before .before .before .before .before .before .before .before .before .before .before .before .before .good .1 .0 .0)
 
--- src/lib.rt:449:5
 slice-write-out : tie.Need-slice-write-out
-slice-write-out c = ?
+slice-write-out c =
+    let a = c .before .before .before .before .before .before .before .before .before .before .before .before .before .before .before .before .before .before .before .before .before .before .args in
+    let h = c .before .before .before .before .before .before .before .before .before .before .before .before .before .before .before .before .before .before .before .before .before .before .pre in
+    let k = c .before .before .before .before .before .before .before .before .before .before .before .before .before .before .before .before .before .before .before .cut in
+    let m = c .before .before .before .before .before .before .before .before .before .before .before .before .before .before .before .before .before .before .cut2 in
+    let n = c .before .before .before .before .before .before .before .before .before .before .before .before .before .before .before .before .before .number-at in
+    let fields = spaced behindFirst (part (k .result) (a .view .now)) in
+    let records = spaced (widths (n .result)) (part (m .result) (a .view .now)) in
+    let w1 = first-field (a .view .now) (a .out .now) _ (k .result) (m .result) (n .result) (k .ensures) (m .ensures) (n .ensures .1) h (c .before .before .before .before .before .before .before .before .before .before .before .before .before .before .write-hex .ensures) in
+    let f = c .before .before .before .before .before .before .before .write-fields in
+    let w2 = next w1 h fields (records ++ (0x0A ∷ [])) refl (f .result) (f .ensures .0) _ (f .ensures .1) in
+    let r = c .before .before .write-record-fields in
+    let w3 = next w2 h records (0x0A ∷ []) refl (r .result) (r .ensures .0) _ (r .ensures .1) in
+    let room = room-next w3 h (0x0A ∷ []) [] refl 1 refl in
+    omega (arith, room, w3 .same)
 
--- src/lib.rt:450:5
 add-result : tie.Need-add-result
-add-result c = ?
+add-result c =
+    let a = c .before .before .before .before .before .before .before .before .before .before .before .before .before .before .before .before .before .before .before .before .before .before .args in
+    let h = c .before .before .before .before .before .before .before .before .before .before .before .before .before .before .before .before .before .before .before .before .before .before .pre in
+    let k = c .before .before .before .before .before .before .before .before .before .before .before .before .before .before .before .before .before .before .before .cut in
+    let m = c .before .before .before .before .before .before .before .before .before .before .before .before .before .before .before .before .before .before .cut2 in
+    let n = c .before .before .before .before .before .before .before .before .before .before .before .before .before .before .before .before .before .number-at in
+    let fields = spaced behindFirst (part (k .result) (a .view .now)) in
+    let records = spaced (widths (n .result)) (part (m .result) (a .view .now)) in
+    let w1 = first-field (a .view .now) (a .out .now) _ (k .result) (m .result) (n .result) (k .ensures) (m .ensures) (n .ensures .1) h (c .before .before .before .before .before .before .before .before .before .before .before .before .before .before .write-hex .ensures) in
+    let f = c .before .before .before .before .before .before .before .write-fields in
+    let w2 = next w1 h fields (records ++ (0x0A ∷ [])) refl (f .result) (f .ensures .0) _ (f .ensures .1) in
+    let r = c .before .before .write-record-fields in
+    let w3 = next w2 h records (0x0A ∷ []) refl (r .result) (r .ensures .0) _ (r .ensures .1) in
+    let room = room-next w3 h (0x0A ∷ []) [] refl 1 refl in
+    omega (arith, room, c .before .before .before .before .before .before .before .before .before .before .before .before .before .before .before .before .before .before .before .before .before .before .good .1 .0 .0)
 
--- src/lib.rt:437:1
 same-length : tie.Need-same-length
-same-length c = ?
+same-length c =
+    let a = c .before .before .before .before .before .before .before .before .before .before .before .before .before .before .before .before .before .before .before .before .before .before .args in
+    let h = c .before .before .before .before .before .before .before .before .before .before .before .before .before .before .before .before .before .before .before .before .before .before .pre in
+    let k = c .before .before .before .before .before .before .before .before .before .before .before .before .before .before .before .before .before .before .before .cut in
+    let m = c .before .before .before .before .before .before .before .before .before .before .before .before .before .before .before .before .before .before .cut2 in
+    let n = c .before .before .before .before .before .before .before .before .before .before .before .before .before .before .before .before .before .number-at in
+    let fields = spaced behindFirst (part (k .result) (a .view .now)) in
+    let records = spaced (widths (n .result)) (part (m .result) (a .view .now)) in
+    let w1 = first-field (a .view .now) (a .out .now) _ (k .result) (m .result) (n .result) (k .ensures) (m .ensures) (n .ensures .1) h (c .before .before .before .before .before .before .before .before .before .before .before .before .before .before .write-hex .ensures) in
+    let f = c .before .before .before .before .before .before .before .write-fields in
+    let w2 = next w1 h fields (records ++ (0x0A ∷ [])) refl (f .result) (f .ensures .0) _ (f .ensures .1) in
+    let r = c .before .before .write-record-fields in
+    let w3 = next w2 h records (0x0A ∷ []) refl (r .result) (r .ensures .0) _ (r .ensures .1) in
+    let room = room-next w3 h (0x0A ∷ []) [] refl 1 refl in
+    let w4 = byte w3 0x0A [] refl (omega (arith, room)) in
+    w4 .same
 
--- src/lib.rt:437:1
 returns : tie.Need-returns
-returns c = ?
+returns c =
+    let a = c .before .before .before .before .before .before .before .before .before .before .before .before .before .before .before .before .before .before .before .before .before .before .args in
+    let h = c .before .before .before .before .before .before .before .before .before .before .before .before .before .before .before .before .before .before .before .before .before .before .pre in
+    let k = c .before .before .before .before .before .before .before .before .before .before .before .before .before .before .before .before .before .before .before .cut in
+    let m = c .before .before .before .before .before .before .before .before .before .before .before .before .before .before .before .before .before .before .cut2 in
+    let n = c .before .before .before .before .before .before .before .before .before .before .before .before .before .before .before .before .before .number-at in
+    let fields = spaced behindFirst (part (k .result) (a .view .now)) in
+    let records = spaced (widths (n .result)) (part (m .result) (a .view .now)) in
+    let w1 = first-field (a .view .now) (a .out .now) _ (k .result) (m .result) (n .result) (k .ensures) (m .ensures) (n .ensures .1) h (c .before .before .before .before .before .before .before .before .before .before .before .before .before .before .write-hex .ensures) in
+    let f = c .before .before .before .before .before .before .before .write-fields in
+    let w2 = next w1 h fields (records ++ (0x0A ∷ [])) refl (f .result) (f .ensures .0) _ (f .ensures .1) in
+    let r = c .before .before .write-record-fields in
+    let w3 = next w2 h records (0x0A ∷ []) refl (r .result) (r .ensures .0) _ (r .ensures .1) in
+    let room = room-next w3 h (0x0A ∷ []) [] refl 1 refl in
+    let w4 = byte w3 0x0A [] refl (omega (arith, room)) in
+    (ends-at w4 refl, ends w4 refl)
 
 pub write-line-spec : {M : Type 1} → statement M
 write-line-spec =

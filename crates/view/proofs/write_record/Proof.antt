@@ -57,7 +57,7 @@ returns c =
     let l = labelField (r .label) in
     let v = contentsField (r .contents) in
     let head = first (recordField (a .p) r) (a .p ∷ c .before .before .before .before .before .before .before .before .before .before .before .before .kind-byte .result ∷ []) (l ++ v) (a .out .now)
-        (ap (λ (k : ℕ). a .p ∷ k ∷ (l ++ v)) (sym (c .before .before .before .before .before .before .before .before .before .before .before .before .kind-byte .ensures))) 2 refl (omega arith) _ (c .before .before .before .before .before .before .before .before .before .before .write-pair .ensures) in
+    (ap (λ (k : ℕ). a .p ∷ k ∷ (l ++ v)) (sym (c .before .before .before .before .before .before .before .before .before .before .before .before .kind-byte .ensures))) 2 refl (omega arith) _ (c .before .before .before .before .before .before .before .before .before .before .write-pair .ensures) in
     last (piece head l v refl 16 (length-label (r .label)) (omega arith) _ (c .before .before .before .before .before .before .write-label .ensures))
     18 (length-contents (r .contents)) (omega arith) _ (c .before .before .write-contents .ensures)
 

@@ -127,12 +127,12 @@ returns c =
     let closes = final R (f .ending) (closing f) in
     let records = recordFields R 0 σ in
     let first-part = first (view R (a .steps) (finished f σ)) (counts R (a .steps) (f .ending) (closing f)) (littleEndian 2 (recordsShown R σ) ++ (littleEndian 2 62 ++ (littleEndian 2 (62 + 36 * recordsShown R σ) ++ (closes ++ records)))) (a .out .now)
-        (view-parts R (a .steps) (finished f σ)) 6 (length-counts R (a .steps) (f .ending) (closing f)) (omega (arith, h)) _ (c .before .before .before .before .before .before .before .before .before .before .before .before .before .before .before .before .before .before .before .before .before .before .write-counts .ensures) in
+    (view-parts R (a .steps) (finished f σ)) 6 (length-counts R (a .steps) (f .ending) (closing f)) (omega (arith, h)) _ (c .before .before .before .before .before .before .before .before .before .before .before .before .before .before .before .before .before .before .before .before .before .before .write-counts .ensures) in
     let shown-part = piece first-part (littleEndian 2 n) (littleEndian 2 62 ++ (littleEndian 2 (62 + 36 * recordsShown R σ) ++ (closes ++ records)))
-        (ap (λ (k : ℕ). littleEndian 2 k ++ (littleEndian 2 62 ++ (littleEndian 2 (62 + 36 * recordsShown R σ) ++ (closes ++ records)))) (sym e)) 2 (length-number 2 n) (omega (arith, h)) _ (c .before .before .before .before .before .before .before .before .before .before .before .before .before .before .before .before .before .before .write-number .ensures) in
+    (ap (λ (k : ℕ). littleEndian 2 k ++ (littleEndian 2 62 ++ (littleEndian 2 (62 + 36 * recordsShown R σ) ++ (closes ++ records)))) (sym e)) 2 (length-number 2 n) (omega (arith, h)) _ (c .before .before .before .before .before .before .before .before .before .before .before .before .before .before .before .before .before .before .write-number .ensures) in
     let start-part = piece shown-part (littleEndian 2 62) (littleEndian 2 (62 + 36 * recordsShown R σ) ++ (closes ++ records)) refl 2 (length-number 2 62) (omega (arith, h)) _ (c .before .before .before .before .before .before .before .before .before .before .before .before .before .before .write-number2 .ensures) in
     let length-part = piece start-part (littleEndian 2 (62 + 36 * n)) (closes ++ records)
-        (ap (λ (k : ℕ). littleEndian 2 (62 + 36 * k) ++ (closes ++ records)) (sym e)) 2 (length-number 2 (62 + 36 * n)) (omega (arith, h)) _ (c .before .before .before .before .before .before .before .before .before .before .write-number3 .ensures) in
+    (ap (λ (k : ℕ). littleEndian 2 (62 + 36 * k) ++ (closes ++ records)) (sym e)) 2 (length-number 2 (62 + 36 * n)) (omega (arith, h)) _ (c .before .before .before .before .before .before .before .before .before .before .write-number3 .ensures) in
     let final-part = piece length-part closes records refl 50 (length-final R 0 (f .ending) (closing f)) (omega (arith, h)) _ (c .before .before .before .before .before .before .write-final .ensures) in
     last final-part (36 * recordsShown R σ) (length-records R 0 σ) h _ (c .before .before .write-records .ensures)
 
