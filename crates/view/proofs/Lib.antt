@@ -1,4 +1,7 @@
--- Theorems on the definition of the view.
+-- Theorems on the definitions of specs/, and lemmas for the proofs of the functions.
+pub mod Buffers
 pub mod Widths
+pub mod Places
+pub mod Printing
 pub mod LengthField
 pub mod SameView

@@ -1,1 +1,472 @@
-// The view: what a reading label is shown of a run.
+// The view: what a reading label, the observer, is shown of a run that has ended, written into a buffer that the caller
+// lends; and the line that is printed of it.
+use labels::Label;
+use model::Contents;
+use model::Datum;
+use model::Ending;
+use model::Kind;
+use model::Record;
+use model::Slot;
+ghost use mathlib.Core.Path.{_≡_};
+ghost use mathlib.Core.List.{[], _∷_};
+ghost use Prim.Native.Nat.{_+_, _-_, _*_, _≤_, _<_};
+ghost use lib.ListN.{length, replicate};
+ghost use Rattle.store.specs.Slots.{words, slots};
+ghost use Rattle.view.specs.Layout.{labelWidth, valueWidth, recordWidth, littleEndian, labelField, valueField, datumField, contentsField, endingNumber, resultField, kindByte, recordField, recordFields, recordsShown, counts, final, viewLength, view};
+ghost use Rattle.view.specs.Lines.{hexDigit, hex, spaced, widths, line, refusedLine};
+ghost use Rattle.view.specs.Writing.{over, reads, closing, finished, Cut};
+ghost use Rattle.model.specs.Decoding.{u16};
+
+// What a run leaves for its view, beside the store: how it ended, its last label and clearance, the steps that it
+// had left, and the next place.
+pub struct Finish {
+    pub ending: Ending,
+    pub label: Label,
+    pub clearance: Label,
+    pub steps: usize,
+    pub next: usize,
+}
+
+// ---- the widths and offsets of a view, in bytes
+
+// A 16-bit number, a word, a label, and a value.
+const NUMBER: usize = 2;
+
+const WORD: usize = 8;
+
+const LABEL: usize = 2 * WORD;
+
+const VALUE: usize = 2 + 2 * WORD;
+
+// Of a value: its words behind the kind and a 0 byte.
+const FIRST: usize = 2;
+
+const SECOND: usize = FIRST + WORD;
+
+// Of the view: the six numbers, ending first; the result, label and clearance; the records.
+const USED: usize = NUMBER;
+
+const NEXT: usize = 2 * NUMBER;
+
+const SHOWN: usize = 3 * NUMBER;
+
+const START: usize = 4 * NUMBER;
+
+const LENGTH: usize = 5 * NUMBER;
+
+const RESULT: usize = 6 * NUMBER;
+
+const RECORDS: usize = RESULT + FINAL;
+
+// Of what stands at RESULT: the label, the clearance, and the width of all three.
+const FINAL_LABEL: usize = VALUE;
+
+const FINAL_CLEARANCE: usize = VALUE + LABEL;
+
+const FINAL: usize = VALUE + 2 * LABEL;
+
+// Of a record: its label and its value behind the place and the kind, and its width.
+const RECORD_LABEL: usize = 2;
+
+const RECORD_VALUE: usize = RECORD_LABEL + LABEL;
+
+const RECORD: usize = RECORD_VALUE + VALUE;
+
+// How many places the store has.
+const PLACES: usize = 256;
+
+// ---- numbers, labels and values
+
+// Writes the lowest `width` bytes of `n`, little-endian.
+fn write_number(n: u64, width: usize, out: &mut [u8])
+    requires { ⌜ width ≤ length (now out) ⌝ }
+    ensures { λ _. ⌜ now (out .exit) ≡ over (littleEndian width n) (now (out .entry)) ⌝ }
+{
+    let mut rest = n;
+    let mut i = 0;
+    while i < width {
+        out[i] = (rest % 256) as u8;
+        rest = rest / 256;
+        i += 1;
+    }
+}
+
+fn write_zeros(count: usize, out: &mut [u8])
+    requires { ⌜ count ≤ length (now out) ⌝ }
+    ensures { λ _. ⌜ now (out .exit) ≡ over (replicate count 0) (now (out .entry)) ⌝ }
+{
+    let mut i = 0;
+    while i < count {
+        out[i] = 0;
+        i += 1;
+    }
+}
+
+fn write_pair(a: u8, b: u8, out: &mut [u8])
+    requires { ⌜ 2 ≤ length (now out) ⌝ }
+    ensures { λ _. ⌜ now (out .exit) ≡ over (a ∷ b ∷ []) (now (out .entry)) ⌝ }
+{
+    out[0] = a;
+    out[1] = b;
+}
+
+fn write_label(l: Label, out: &mut [u8])
+    requires { ⌜ labelWidth ≤ length (now out) ⌝ }
+    ensures { λ _. ⌜ now (out .exit) ≡ over (labelField l) (now (out .entry)) ⌝ }
+{
+    write_number(l.secrecy, WORD, out);
+    write_number(l.integrity, WORD, &mut out[WORD..]);
+}
+
+// A value: its kind, a 0 byte, two words.
+fn write_value(kind: u8, first: u64, second: u64, out: &mut [u8])
+    requires { ⌜ valueWidth ≤ length (now out) ⌝ }
+    ensures { λ _. ⌜ now (out .exit) ≡ over (valueField kind first second) (now (out .entry)) ⌝ }
+{
+    write_pair(kind, 0, out);
+    write_number(first, WORD, &mut out[FIRST..]);
+    write_number(second, WORD, &mut out[SECOND..]);
+}
+
+fn write_datum(d: Datum, out: &mut [u8])
+    requires { ⌜ valueWidth ≤ length (now out) ⌝ }
+    ensures { λ _. ⌜ now (out .exit) ≡ over (datumField d) (now (out .entry)) ⌝ }
+{
+    match d {
+        Datum::Number(n) => write_value(1, n as u64, 0, out),
+        Datum::Label(l) => write_value(2, l.secrecy, l.integrity, out),
+        Datum::Handle(kind, p) => write_value(3 + kind_byte(kind), p as u64, 0, out),
+    }
+}
+
+fn write_contents(contents: Contents, out: &mut [u8])
+    requires { ⌜ valueWidth ≤ length (now out) ⌝ }
+    ensures { λ _. ⌜ now (out .exit) ≡ over (contentsField contents) (now (out .entry)) ⌝ }
+{
+    match contents {
+        Contents::Value(d) => write_datum(d, out),
+        Contents::Fault(code, number) => write_value(5, code as u64, number as u64, out),
+    }
+}
+
+// ---- the ending
+
+fn ending_number(ending: Ending) -> u64
+    ensures { λ r. ⌜ r ≡ endingNumber ending ⌝ }
+{
+    match ending {
+        Ending::Result(_) => 1,
+        Ending::Fault(_, _) => 2,
+        Ending::Spent => 3,
+    }
+}
+
+fn write_result(ending: Ending, out: &mut [u8])
+    requires { ⌜ valueWidth ≤ length (now out) ⌝ }
+    ensures { λ _. ⌜ now (out .exit) ≡ over (resultField ending) (now (out .entry)) ⌝ }
+{
+    match ending {
+        Ending::Result(d) => write_datum(d, out),
+        Ending::Fault(code, number) => write_value(5, code as u64, number as u64, out),
+        Ending::Spent => write_value(0, 0, 0, out),
+    }
+}
+
+// ---- records
+
+fn kind_byte(kind: Kind) -> u8
+    ensures { λ r. ⌜ r ≡ kindByte kind ⌝ }
+{
+    match kind {
+        Kind::Sealed => 0,
+        Kind::Reference => 1,
+    }
+}
+
+// Writes the record at place `p`.
+fn write_record(p: u8, r: Record, out: &mut [u8])
+    requires { ⌜ recordWidth ≤ length (now out) ⌝ }
+    ensures { λ _. ⌜ now (out .exit) ≡ over (recordField p r) (now (out .entry)) ⌝ }
+{
+    let kind = r.kind;
+    let label = r.label;
+    let contents = r.contents;
+    write_pair(p, kind_byte(kind), out);
+    write_label(label, &mut out[RECORD_LABEL..]);
+    write_contents(contents, &mut out[RECORD_VALUE..]);
+}
+
+// A slot as the reader may observe it: empty unless its record's label flows to the reader.
+fn shown(reader: Label, slot: Slot) -> Slot
+    ensures { λ r. ⌜ r ≡ Rattle.view.specs.Layout.shown (reads reader) slot ⌝ }
+{
+    match slot {
+        Slot::Empty => Slot::Empty,
+        Slot::Full(r) => {
+            let label = r.label;
+            if labels::flows(label, reader) {
+                return Slot::Full(r);
+            }
+            Slot::Empty
+        }
+    }
+}
+
+fn one(slot: Slot) -> usize
+    ensures { λ r. ⌜ r ≡ Rattle.view.specs.Layout.one slot ⌝ }
+{
+    match slot {
+        Slot::Empty => 0,
+        Slot::Full(_) => 1,
+    }
+}
+
+// How many records the reader is shown.
+fn records_shown(reader: Label, store: &[u64]) -> usize
+    requires { ⌜ length (now store) ≡ words ⌝ }
+    ensures { λ r. ⌜ (r ≤ 256) × (r ≡ recordsShown (reads reader) (slots (now (store .entry)))) ⌝ }
+{
+    let mut n = 0;
+    let mut p = 0;
+    while p < PLACES {
+        n += one(shown(reader, store::load(store, p)));
+        p += 1;
+    }
+    n
+}
+
+// Writes the records that the reader is shown, by rising place.
+fn write_records(reader: Label, store: &[u64], out: &mut [u8])
+    requires { ⌜ length (now store) ≡ words ⌝ }
+    requires { ⌜ recordWidth * recordsShown (reads reader) (slots (now store)) ≤ length (now out) ⌝ }
+    ensures { λ _. ⌜ now (out .exit) ≡ over (recordFields (reads reader) 0 (slots (now (store .entry)))) (now (out .entry)) ⌝ }
+{
+    let mut at = 0;
+    let mut p = 0;
+    while p < PLACES {
+        match shown(reader, store::load(store, p)) {
+            Slot::Full(r) => {
+                write_record(p as u8, r, &mut out[at..]);
+                at += RECORD;
+            }
+            Slot::Empty => {}
+        }
+        p += 1;
+    }
+}
+
+// ---- the view
+
+// How many bytes the view has. It is known before the first of them is written.
+pub fn view_length(reader: Label, store: &[u64]) -> usize
+    requires { ⌜ length (now store) ≡ words ⌝ }
+    ensures { λ r. ⌜ r ≡ viewLength (reads reader) (slots (now (store .entry))) ⌝ }
+{
+    RECORDS + RECORD * records_shown(reader, store)
+}
+
+// The steps that a run has used of `all` that it was given, with `left` of them left.
+fn used(all: usize, left: usize) -> usize
+    ensures { λ r. ⌜ r ≡ all - left ⌝ }
+{
+    if left < all {
+        return all - left;
+    }
+    0
+}
+
+// Ending, steps used and next place; zeros if the run's last label doesn't flow to the reader.
+fn write_counts(reader: Label, steps: usize, finish: Finish, out: &mut [u8])
+    requires { ⌜ 6 ≤ length (now out) ⌝ }
+    ensures { λ _. ⌜ now (out .exit) ≡ over (counts (reads reader) steps (finish .ending) (closing finish)) (now (out .entry)) ⌝ }
+{
+    let ending = finish.ending;
+    let label = finish.label;
+    if labels::flows(label, reader) {
+        write_number(ending_number(ending), NUMBER, out);
+        write_number(used(steps, finish.steps) as u64, NUMBER, &mut out[USED..]);
+        write_number(finish.next as u64, NUMBER, &mut out[NEXT..]);
+    } else {
+        write_zeros(SHOWN, out);
+    }
+}
+
+// Result, label and clearance; zeros likewise.
+fn write_final(reader: Label, finish: Finish, out: &mut [u8])
+    requires { ⌜ 50 ≤ length (now out) ⌝ }
+    ensures { λ _. ⌜ now (out .exit) ≡ over (final (reads reader) (finish .ending) (closing finish)) (now (out .entry)) ⌝ }
+{
+    let ending = finish.ending;
+    let label = finish.label;
+    let clearance = finish.clearance;
+    if labels::flows(label, reader) {
+        write_result(ending, out);
+        write_label(label, &mut out[FINAL_LABEL..]);
+        write_label(clearance, &mut out[FINAL_CLEARANCE..]);
+    } else {
+        write_zeros(FINAL, out);
+    }
+}
+
+// Writes the view of a run that was given `steps` steps, and leaves the buffer behind it as it was.
+pub fn write_view(reader: Label, steps: usize, finish: Finish, store: &[u64], out: &mut [u8])
+    requires { ⌜ length (now store) ≡ words ⌝ }
+    requires { ⌜ viewLength (reads reader) (slots (now store)) ≤ length (now out) ⌝ }
+    ensures { λ _. ⌜ now (out .exit) ≡ over (view (reads reader) steps (finished finish (slots (now (store .entry))))) (now (out .entry)) ⌝ }
+{
+    let n = records_shown(reader, store);
+    write_counts(reader, steps, finish, out);
+    write_number(n as u64, NUMBER, &mut out[SHOWN..]);
+    write_number(RECORDS as u64, NUMBER, &mut out[START..]);
+    write_number((RECORDS + RECORD * n) as u64, NUMBER, &mut out[LENGTH..]);
+    write_final(reader, finish, &mut out[RESULT..]);
+    write_records(reader, store, &mut out[RECORDS..]);
+}
+
+// ---- the printed line
+
+// The widths of a line's fields: of those before the records, and of a record's.
+const FRONT: [usize; 13] = [2, 2, 2, 2, 2, 2, 2, 8, 8, 8, 8, 8, 8];
+
+const FIELDS: [usize; 7] = [1, 1, 8, 8, 2, 8, 8];
+
+// The 16-bit number at byte `i`; a byte that isn't there counts as 0.
+fn number_at(bytes: &[u8], i: usize) -> usize
+    requires { ⌜ i < 65536 ⌝ }
+    ensures { λ r. ⌜ (r < 65536) × (r ≡ u16 (now (bytes .entry)) i) ⌝ }
+{
+    if bytes.len() <= i {
+        return 0;
+    }
+    let low = bytes[i] as usize;
+    if bytes.len() <= i + 1 {
+        return low;
+    }
+    low + 256 * (bytes[i + 1] as usize)
+}
+
+// How many of `width` bytes there are.
+fn cut(width: usize, bytes: &[u8]) -> usize
+    ensures { λ r. ⌜ Cut width (now (bytes .entry)) r ⌝ }
+{
+    if width <= bytes.len() {
+        return width;
+    }
+    bytes.len()
+}
+
+fn hex_digit(d: u8) -> u8
+    requires { ⌜ d < 16 ⌝ }
+    ensures { λ r. ⌜ r ≡ hexDigit d ⌝ }
+{
+    if d < 10 {
+        return b'0' + d;
+    }
+    b'a' + (d - 10)
+}
+
+// Writes two digits for each byte.
+fn write_hex(bytes: &[u8], out: &mut [u8])
+    requires { ⌜ 2 * length (now bytes) ≤ length (now out) ⌝ }
+    ensures { λ _. ⌜ now (out .exit) ≡ over (hex (now (bytes .entry))) (now (out .entry)) ⌝ }
+{
+    let mut at = 0;
+    let mut i = 0;
+    while i < bytes.len() {
+        let b = bytes[i];
+        write_pair(hex_digit(b / 16), hex_digit(b % 16), &mut out[at..]);
+        at += 2;
+        i += 1;
+    }
+}
+
+// A space and a field.
+fn write_field(field: &[u8], out: &mut [u8])
+    requires { ⌜ 1 + 2 * length (now field) ≤ length (now out) ⌝ }
+    ensures { λ _. ⌜ now (out .exit) ≡ over (0x20 ∷ hex (now (field .entry))) (now (out .entry)) ⌝ }
+{
+    out[0] = b' ';
+    write_hex(field, &mut out[1..]);
+}
+
+// Writes the fields of these widths, and gives how many bytes that is.
+fn write_fields(widths: &[usize], bytes: &[u8], out: &mut [u8]) -> usize
+    requires { ⌜ length (spaced (now widths) (now bytes)) ≤ length (now out) ⌝ }
+    ensures { λ r. ⌜ (r ≡ length (spaced (now (widths .entry)) (now (bytes .entry)))) × (now (out .exit) ≡ over (spaced (now (widths .entry)) (now (bytes .entry))) (now (out .entry))) ⌝ }
+{
+    let mut rest = bytes;
+    let mut at = 0;
+    let mut j = 0;
+    while j < widths.len() {
+        let n = cut(widths[j], rest);
+        write_field(&rest[..n], &mut out[at..]);
+        at += 1 + 2 * n;
+        rest = &rest[n..];
+        j += 1;
+    }
+    at
+}
+
+// Writes the fields of `count` records, and gives how many bytes that is.
+fn write_record_fields(count: usize, bytes: &[u8], out: &mut [u8]) -> usize
+    requires { ⌜ length (spaced (widths count) (now bytes)) ≤ length (now out) ⌝ }
+    ensures { λ r. ⌜ (r ≡ length (spaced (widths count) (now (bytes .entry)))) × (now (out .exit) ≡ over (spaced (widths count) (now (bytes .entry))) (now (out .entry))) ⌝ }
+{
+    let fields = FIELDS;
+    let mut rest = bytes;
+    let mut at = 0;
+    let mut i = 0;
+    while i < count {
+        at += write_fields(&fields, rest, &mut out[at..]);
+        let n = cut(RECORD, rest);
+        rest = &rest[n..];
+        i += 1;
+    }
+    at
+}
+
+// How many bytes the line of a view has.
+pub fn line_length(view: &[u8]) -> usize
+    ensures { λ r. ⌜ r ≡ length (line (now (view .entry))) ⌝ }
+{
+    let n = number_at(view, SHOWN);
+    13 + 7 * n + 2 * cut(RECORDS + RECORD * n, view)
+}
+
+// Writes the line of a view, and gives how many bytes that is.
+pub fn write_line(view: &[u8], out: &mut [u8]) -> usize
+    requires { ⌜ length (line (now view)) ≤ length (now out) ⌝ }
+    ensures { λ r. ⌜ (r ≡ length (line (now (view .entry)))) × (now (out .exit) ≡ over (line (now (view .entry))) (now (out .entry))) ⌝ }
+{
+    let front = FRONT;
+    let first = cut(NUMBER, view);
+    let records = cut(RECORDS, view);
+    let n = number_at(view, SHOWN);
+    write_hex(&view[..first], out);
+    let middle = 2 * first;
+    let last = middle + write_fields(&front[1..], &view[first..], &mut out[middle..]);
+    let end = last + write_record_fields(n, &view[records..], &mut out[last..]);
+    out[end] = b'\n';
+    end + 1
+}
+
+fn write_bytes(bytes: &[u8], out: &mut [u8])
+    requires { ⌜ length (now bytes) ≤ length (now out) ⌝ }
+    ensures { λ _. ⌜ now (out .exit) ≡ over (now (bytes .entry)) (now (out .entry)) ⌝ }
+{
+    let mut i = 0;
+    while i < bytes.len() {
+        out[i] = bytes[i];
+        i += 1;
+    }
+}
+
+// Writes the line of a file that is refused with the number `n`: 10 bytes.
+pub fn write_refused(n: u8, out: &mut [u8])
+    requires { ⌜ (n < 10) × (10 ≤ length (now out)) ⌝ }
+    ensures { λ _. ⌜ now (out .exit) ≡ over (refusedLine n) (now (out .entry)) ⌝ }
+{
+    let text = [b'r', b'e', b'f', b'u', b's', b'e', b'd', b' '];
+    write_bytes(&text, out);
+    write_pair(b'0' + n, b'\n', &mut out[8..]);
+}

@@ -1,0 +1,32 @@
+-- What the writers of a view put into a buffer, and the outcome that they write of.
+use mathlib.Core.Path.{_≡_}
+use mathlib.Core.Bool.{Bool}
+use mathlib.Core.List.{List, _++_}
+use Prim.Native.Nat.{ℕ, _≤_}
+use lib.ListN.{length, take, drop}
+use Rattle.labels.specs.Order.{flows}
+use Rattle.labels.specs.declared.Label.{Label}
+use Rattle.model.specs.State.{Account, Store, Outcome}
+use Rattle.view.specs.declared.Finish.{Finish}
+
+-- the whole buffer once v is written over its start: what lies behind v is untouched
+unfoldable pub over : List ℕ → List ℕ → List ℕ
+over v buffer = v ++ drop (length v) buffer
+
+-- the labels that the reader, itself a label, may observe
+abbrev pub reads : Label → Label → Bool
+reads reader l = flows l reader
+
+-- a view does not tell how many places a run might have filled, nor how deep it was nested: both are 0 here
+abbrev pub closing : Finish → Account
+closing f = record { label = f .label; clearance = f .clearance; steps = f .steps; next = f .next; limit = 0; depth = 0 }
+
+abbrev pub finished : Finish → Store → Outcome
+finished f σ = record { ending = f .ending; account = closing f; store = σ }
+
+-- n is how many of the first w bytes there are
+pub record Cut (w : ℕ) (bytes : List ℕ) (n : ℕ) : Type 0 where
+  pub within : n ≤ length bytes
+  pub few : n ≤ w
+  pub taken : take n bytes ≡ take w bytes
+  pub dropped : drop n bytes ≡ drop w bytes
