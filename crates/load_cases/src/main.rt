@@ -1,5 +1,6 @@
 // Loads each file of standard input and prints the answer. A line has how many zero bytes the file ends with, its other
-// bytes in hexadecimal, and what is tried, parted by single spaces.
+// bytes in hexadecimal, and what is tried, parted by single spaces. The answers to compare with come from a second
+// reading of the file's rules, made apart from this code.
 ghost use Prim.Native.Nat.{_≤_, _<_};
 ghost use lib.ListN.{length};
 use libc::STDIN_FILENO;

@@ -99,7 +99,7 @@ fn read_header(file: &[u8]) -> Header
     }
 }
 
-// Check 1.
+// Check 1: at least 16 bytes, and at most 65,535.
 fn size_ok(n: usize) -> bool
     ensures { λ r. ⌜ r ≡ sizeOk n ⌝ }
 {
@@ -109,7 +109,7 @@ fn size_ok(n: usize) -> bool
     n <= 65535
 }
 
-// Check 2.
+// Check 2: each count within its limits.
 fn counts_ok(h: Header) -> bool
     ensures { λ r. ⌜ r ≡ countsOk h ⌝ }
 {
@@ -140,7 +140,7 @@ fn counts_ok(h: Header) -> bool
     h.places <= 256
 }
 
-// Check 3. The numbers are short, so that the sums are exact.
+// Check 3: the sections follow each other from byte 16 to the file's end. The numbers are short, so no sum wraps.
 fn offsets_ok(h: Header, n: usize) -> bool
     requires { ⌜ Shorts h ⌝ }
     ensures { λ r. ⌜ r ≡ offsetsOk h n ⌝ }
@@ -211,7 +211,7 @@ fn start_ok(words: [u64; 64]) -> bool
 
 // ---- input records
 
-// Check 6.
+// Check 6: each record's kind is 0 or 1, and its label one of the file's.
 fn records_ok(bytes: &[u8], count: usize, labels: usize) -> bool
     requires { ⌜ count ≤ 64 ⌝ }
     ensures { λ r. ⌜ r ≡ recordsOk labels (now (bytes .entry)) count 0 ⌝ }
