@@ -1,14 +1,13 @@
 -- Laws of binary digits: selected of and, or and the complement, and that a number is known by its digits.
 -- Assumes nothing.
-use mathlib.Core.Path.{_≡_, refl, sym, ap, ap₂, _∙_, subst}
+use mathlib.Core.Path.{_≡_, refl, sym, ap, _∙_}
 use mathlib.Core.Bool.{Bool, true, false, not, _&&_, _||_, false≢true}
 use Prim.Native.Nat.{ℕ, zero, suc, _+_, _-_, _*_, _/_, _%_, _^_, _≤_, _<_, zero-le, suc-le-suc, min, max}
-use native.Mathlib.Nat.{le-of-suc-le-suc, not-suc-le-zero, le-refl, zero-lt-suc, min-zero, max-zero, zero-min, zero-max, suc-min-suc, suc-max-suc, mod-lt, pow-suc, div-lt-iff-lt-mul, le-trans}
+use native.Mathlib.Nat.{le-of-suc-le-suc, not-suc-le-zero, zero-lt-suc, min-zero, max-zero, zero-min, zero-max, suc-min-suc, suc-max-suc, pow-suc, le-trans}
 use native.Mathlib.Omega.{arith}
-use native.Mathlib.Numerals.{add-one}
 use lib.Bits.{bitAnd, bitOr, and-step, or-step, and-shr, or-shr}
 use lib.Arith.{digits-mod}
-use lib.Pow.{shr-shr, pow-pos, pow-mono}
+use lib.Pow.{shr-shr, pow-mono}
 use Rattle.formulas.specs.Bits.{nonzero, digit, bit, fromBits}
 
 two-pos : zero < 2
@@ -71,7 +70,7 @@ bit-or a b i =
     ∙ ap nonzero (digits-mod (bitOr (a / 2 ^ i / 2) (b / 2 ^ i / 2)) (omega arith))
     ∙ nonzero-max (a / 2 ^ i % 2) (b / 2 ^ i % 2)
 
-pub half-lt : {a : ℕ} (k : ℕ) → a < 2 ^ suc k → a / 2 < 2 ^ k
+half-lt : {a : ℕ} (k : ℕ) → a < 2 ^ suc k → a / 2 < 2 ^ k
 half-lt {a} k h = let e = pow-suc 2 k in omega arith
 
 -- a digit past the end is 0

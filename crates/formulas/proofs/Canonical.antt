@@ -6,21 +6,19 @@ use mathlib.Core.Logic.{⊎-elim}
 use Prim.Native.Nat.{ℕ, _^_, _<_}
 use native.Mathlib.Omega.{arith}
 use lib.Dec.{T, ltb, ltb→lt, lt→ltb, T-not, not-T}
-use Rattle.formulas.specs.Formula.{Within, implies}
+use Rattle.formulas.specs.Formula.{implies}
 use Rattle.formulas.specs.Normal.{leads, canonical}
 use Rattle.formulas.proofs.Lists.{Asc}
 use Rattle.formulas.proofs.Sets.{subset-le}
 use Rattle.formulas.proofs.Tests.{T-and, T-left, T-right}
 
+-- the masks are sets of n principals
+abbrev pub Within : ℕ → List ℕ → Type 0
+Within n cs = (c : ℕ) → Mem c cs → c < 2 ^ n
+
 -- no two of the masks are comparable
 abbrev pub Apart : List ℕ → Type 0
 Apart cs = (c d : ℕ) → Mem c cs → Mem d cs → T (implies c d) → c ≡ d
-
-leads-lt : (c : ℕ) (ds : List ℕ) (d : ℕ) → T (leads c ds) → Mem d ds → c < d
-leads-lt c [] d t m = absurd (none m)
-leads-lt c (e ∷ es) d t m =
-    ⊎-elim (λ q. subst (λ (y : ℕ). c < y) (sym q) (ltb→lt c e (T-left (ltb c e) (not (implies c e) && leads c es) t)))
-    (λ m′. leads-lt c es d (T-right (not (implies c e)) (leads c es) (T-right (ltb c e) (not (implies c e) && leads c es) t)) m′) (cases m)
 
 leads-apart : (c : ℕ) (ds : List ℕ) (d : ℕ) → T (leads c ds) → Mem d ds → T (implies c d) → ⊥
 leads-apart c [] d t m = absurd (none m)
@@ -28,6 +26,12 @@ leads-apart c (e ∷ es) d t m =
     ⊎-elim (λ q. subst (λ (y : ℕ). T (implies c y) → ⊥) (sym q)
     (T-not (implies c e) (T-left (not (implies c e)) (leads c es) (T-right (ltb c e) (not (implies c e) && leads c es) t))))
     (λ m′. leads-apart c es d (T-right (not (implies c e)) (leads c es) (T-right (ltb c e) (not (implies c e) && leads c es) t)) m′) (cases m)
+
+leads-lt : (c : ℕ) (ds : List ℕ) (d : ℕ) → T (leads c ds) → Mem d ds → c < d
+leads-lt c [] d t m = absurd (none m)
+leads-lt c (e ∷ es) d t m =
+    ⊎-elim (λ q. subst (λ (y : ℕ). c < y) (sym q) (ltb→lt c e (T-left (ltb c e) (not (implies c e) && leads c es) t)))
+    (λ m′. leads-lt c es d (T-right (not (implies c e)) (leads c es) (T-right (ltb c e) (not (implies c e) && leads c es) t)) m′) (cases m)
 
 leads-of : (c : ℕ) (ds : List ℕ) → ((d : ℕ) → Mem d ds → c < d) → ((d : ℕ) → Mem d ds → T (implies c d) → ⊥) → T (leads c ds)
 leads-of c [] f g = tt

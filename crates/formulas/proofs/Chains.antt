@@ -1,6 +1,6 @@
 -- The sets of n principals fall into chains, in each of which every two sets are comparable: the symmetric chain
 -- decomposition, built principal by principal. Assumes nothing.
-use mathlib.Core.Path.{_≡_, refl, sym, _∙_, subst}
+use mathlib.Core.Path.{_≡_, sym, _∙_, subst}
 use mathlib.Core.Bool.{Bool, true, false, _&&_, _||_}
 use mathlib.Core.List.{List, [], _∷_, List·Memᴰ as Mem, List·Memᴰ·head as here, List·Memᴰ·tail as there, List·Memᴰ·not-nil as none, List·Memᴰ·cases-cons as cases}
 use mathlib.Core.Logic.{_⊎_, inl, inr, ⊎-elim}

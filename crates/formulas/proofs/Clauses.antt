@@ -1,16 +1,16 @@
 -- The clauses of a formula that is canonical are the complements of its maximal false points, so that `clauses` gives back
 -- the list that a table came from, and a table has at most one. Assumes nothing.
 use mathlib.Core.Path.{_≡_, sym, ap, _∙_, subst}
-use mathlib.Core.Bool.{Bool, not, _&&_, _||_}
+use mathlib.Core.Bool.{Bool, not}
 use mathlib.Core.List.{List, List·Memᴰ as Mem, Memᴰ·cast as cast}
 use mathlib.Core.Logic.{⊎-elim}
 use Prim.Native.Nat.{ℕ, _-_, _^_, _<_, zero-le}
 use native.Mathlib.Omega.{arith}
 use lib.Dec.{T, T-not, not-T}
 use Rattle.formulas.specs.Bits.{bit}
-use Rattle.formulas.specs.Formula.{holds, satisfied, Within, table, implies}
-use Rattle.formulas.specs.Normal.{canonical, allBelow, maximalFalse, selected, clauses}
-use Rattle.formulas.proofs.Canonical.{Apart, canon-lt, canon-asc, canon-apart}
+use Rattle.formulas.specs.Formula.{holds, satisfied, table, implies}
+use Rattle.formulas.specs.Normal.{canonical, allBelow, passesWith, maximalFalse, selected, clauses}
+use Rattle.formulas.proofs.Canonical.{Within, Apart, canon-lt, canon-asc, canon-apart}
 use Rattle.formulas.proofs.Formula.{shares, holds-at, bit-table}
 use Rattle.formulas.proofs.Implication.{at-implies, implies-refl, implies-antisym}
 use Rattle.formulas.proofs.Lists.{allBelow-at, allBelow-of, asc-same, selected-in, selected-out, selected-asc}
@@ -20,29 +20,25 @@ use Rattle.formulas.proofs.Tests.{T-and, T-left, T-right, T-inl, T-inr,
 -- ---- a maximal false point of a formula
 
 module _ (n : ℕ) (cs : List ℕ) where
-  -- x satisfies the formula with p, or has p already
-  abbrev pub grows : ℕ → ℕ → Bool
-  grows x p = bit x p || bit (table n cs) (Sets.adding x p)
-
   pub maximal-fails : (x : ℕ) → x < 2 ^ n → T (maximalFalse n (table n cs) x) → T (satisfied cs x) → ⊥
   unfolding maximalFalse
   maximal-fails x hx t u =
-      T-not (bit (table n cs) x) (T-left (not (bit (table n cs) x)) (allBelow n (grows x)) t) (T-eq (sym (bit-table n cs x hx)) u)
+      T-not (bit (table n cs) x) (T-left (not (bit (table n cs) x)) (allBelow n (passesWith (table n cs) x)) t) (T-eq (sym (bit-table n cs x hx)) u)
 
   pub maximal-more : (x : ℕ) → x < 2 ^ n → T (maximalFalse n (table n cs) x) → (p : ℕ) → p < n → (T (bit x p) → ⊥) → T (satisfied cs (Sets.adding x p))
   unfolding maximalFalse
   maximal-more x hx t p hp f =
       ⊎-elim (λ u. absurd (f u)) (λ u. T-eq (bit-table n cs (Sets.adding x p) (Sets.adding-lt n x p hx hp)) u)
       (T-or (bit x p) (bit (table n cs) (Sets.adding x p))
-      (allBelow-at n (grows x) p (T-right (not (bit (table n cs) x)) (allBelow n (grows x)) t) hp))
+      (allBelow-at n (passesWith (table n cs) x) p (T-right (not (bit (table n cs) x)) (allBelow n (passesWith (table n cs) x)) t) hp))
 
-  pub maximal-of : (x : ℕ) → x < 2 ^ n → (T (satisfied cs x) → ⊥)
+  maximal-of : (x : ℕ) → x < 2 ^ n → (T (satisfied cs x) → ⊥)
       → ((p : ℕ) → p < n → (T (bit x p) → ⊥) → T (satisfied cs (Sets.adding x p))) → T (maximalFalse n (table n cs) x)
   unfolding maximalFalse
   maximal-of x hx f g =
-      T-and (not (bit (table n cs) x)) (allBelow n (grows x))
+      T-and (not (bit (table n cs) x)) (allBelow n (passesWith (table n cs) x))
       (not-T (bit (table n cs) x) (λ u. f (T-eq (bit-table n cs x hx) u)))
-      (allBelow-of n (grows x) (λ p hp.
+      (allBelow-of n (passesWith (table n cs) x) (λ p hp.
       ⊎-elim (λ u. T-inl (bit x p) (bit (table n cs) (Sets.adding x p)) u)
       (λ u. T-inr (bit x p) (bit (table n cs) (Sets.adding x p))
       (T-eq (sym (bit-table n cs (Sets.adding x p) (Sets.adding-lt n x p hx hp))) (g p hp u)))

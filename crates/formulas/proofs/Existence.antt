@@ -1,6 +1,6 @@
 -- Every formula over n principals has a canonical list with its table: `clauses` of its table. Assumes nothing.
 use mathlib.Core.Path.{_≡_, sym, _∙_, subst}
-use mathlib.Core.Bool.{not, _&&_}
+use mathlib.Core.Bool.{not}
 use mathlib.Core.List.{List, List·Memᴰ as Mem}
 use mathlib.Core.Logic.{⊎-elim}
 use Prim.Native.Nat.{ℕ, zero, suc, _+_, _-_, _^_, _≤_, _<_, zero-le}
@@ -8,10 +8,10 @@ use native.Mathlib.Omega.{arith}
 use lib.Arith.{lt-of-le-ne}
 use lib.Dec.{T, not-T}
 use Rattle.formulas.specs.Bits.{bit}
-use Rattle.formulas.specs.Formula.{holds, satisfied, Within, table, implies}
-use Rattle.formulas.specs.Normal.{canonical, allBelow, maximalFalse, clauses}
+use Rattle.formulas.specs.Formula.{holds, satisfied, table, implies}
+use Rattle.formulas.specs.Normal.{canonical, allBelow, passesWith, maximalFalse, clauses}
 use Rattle.formulas.proofs.Canonical.{Apart, canon-of}
-use Rattle.formulas.proofs.Clauses.{grows, maximal-fails, maximal-more}
+use Rattle.formulas.proofs.Clauses.{maximal-fails, maximal-more}
 use Rattle.formulas.proofs.Formula.{shares, holds-at, bit-table, table-lt, table-ext}
 use Rattle.formulas.proofs.Implication.{implies-at, at-implies, implies-refl, implies-trans, implies-antisym}
 use Rattle.formulas.proofs.Lists.{Asc, allBelow-find, selected-in, selected-out, selected-asc}
@@ -34,7 +34,7 @@ module _ (n : ℕ) (cs : List ℕ) where
       → (p : ℕ) × (p < n) × (T (bit x p) → ⊥) × (T (satisfied cs (Sets.adding x p)) → ⊥)
   unfolding maximalFalse
   step x hx f g =
-      let w = allBelow-find n (grows n cs x) (λ t. g (T-and (not (bit (table n cs) x)) (allBelow n (grows n cs x))
+      let w = allBelow-find n (passesWith (table n cs) x) (λ t. g (T-and (not (bit (table n cs) x)) (allBelow n (passesWith (table n cs) x))
       (not-T (bit (table n cs) x) (λ u. f (T-eq (bit-table n cs x hx) u))) t)) in (
         w .0,
         w .1,

@@ -11,7 +11,7 @@ use lib.Pow.{pow-pos}
 use native.Mathlib.Nat.{lt-of-le-of-lt}
 use native.Mathlib.Omega.{arith}
 use Rattle.formulas.specs.Bits.{bit}
-use Rattle.formulas.specs.Formula.{satisfied, Entails, table, implies}
+use Rattle.formulas.specs.Formula.{Entails, table, implies}
 use Rattle.formulas.proofs.Bits.{bit-and, bit-or, same-bits, ext, bit-past, bit-complement}
 use Rattle.formulas.proofs.Formula.{bit-table, table-lt}
 use Rattle.formulas.proofs.Tests.{T-and, T-left, T-right, T-inl, T-inr, T-or, T-same, T-eq, lt-or-ge}

@@ -1,7 +1,7 @@
 -- The laws of an order with least upper bounds as one record, so that what rests on them is proved for any such order.
 -- Greatest lower bounds are the least upper bounds of the order read backwards. Assumes nothing.
 use mathlib.Core.Bool.{Bool, _&&_}
-use mathlib.Core.Path.{_≡_, refl, sym, ap, _∙_}
+use mathlib.Core.Path.{_≡_, sym, ap}
 use mathlib.Core.Logic.{_↔_}
 use Prim.Native.Nat.{ℕ}
 use lib.Bits.{bitAnd, bitOr}

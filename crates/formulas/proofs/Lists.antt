@@ -1,6 +1,6 @@
 -- Tests over ranges, ascending lists, and the numbers that a test selects. Assumes nothing.
 use mathlib.Core.Path.{_≡_, refl, sym, ap₂, subst}
-use mathlib.Core.Bool.{Bool, true, false, _&&_}
+use mathlib.Core.Bool.{Bool, true, false}
 use mathlib.Core.List.{List, [], _∷_, List·Memᴰ as Mem, List·Memᴰ·head as here, List·Memᴰ·tail as there, List·Memᴰ·not-nil as none, List·Memᴰ·cases-cons as cases, Memᴰ·cast as cast}
 use mathlib.Core.Logic.{_⊎_, inl, inr, ⊎-elim}
 use Prim.Native.Nat.{ℕ, zero, suc, _+_, _≤_, _<_}
@@ -54,11 +54,11 @@ asc-same (x ∷ xs) (y ∷ ys) ax ay f g =
 
 -- ---- what `selected` holds
 
-pub consIf-head : (b : Bool) (c : ℕ) (l : List ℕ) → T b → Mem c (consIf b c l)
+consIf-head : (b : Bool) (c : ℕ) (l : List ℕ) → T b → Mem c (consIf b c l)
 consIf-head true c l t = here refl
 consIf-head false c l t = absurd t
 
-pub consIf-tail : (b : Bool) (c d : ℕ) (l : List ℕ) → Mem d l → Mem d (consIf b c l)
+consIf-tail : (b : Bool) (c d : ℕ) (l : List ℕ) → Mem d l → Mem d (consIf b c l)
 consIf-tail true c d l m = there m
 consIf-tail false c d l m = m
 

@@ -1,29 +1,26 @@
--- Clauses, formulas and their tables, for n principals, numbered from 0.
+-- Labels: clauses, formulas and their tables, for n principals, numbered from 0.
 -- A set of principals is a mask: the number below 2 ^ n whose digit p says whether principal p is a member.
 -- Assumes nothing.
 use mathlib.Core.Bool.{Bool, true, _&&_}
-use mathlib.Core.List.{List, [], _∷_, _++_, map, List·Memᴰ as Member}
+use mathlib.Core.List.{List, [], _∷_, _++_, map}
 use mathlib.Core.Path.{_≡_}
 use Prim.Native.Nat.{ℕ, _^_, _<_}
 use lib.Bits.{bitAnd, bitOr}
 use lib.Dec.{T, eqb}
 use Rattle.formulas.specs.Bits.{nonzero, fromBits}
 
--- A clause is a mask: digit p set means that principal p may vouch. It holds for a set that shares a member with it.
+-- Labels: "A clause is a byte mask; bit p set means principal p may vouch. A clause holds for a set of principals that
+-- shares a member with it."
 unfoldable pub holds : ℕ → ℕ → Bool
 holds c x = nonzero (bitAnd c x)
 
--- A formula is the AND of its clauses: none is True, and the single empty clause is False.
+-- Labels: "A formula is the AND of its clauses; none is True, and the single empty clause (mask 0) is False."
 -- `satisfied cs x`: the set x satisfies the formula cs
 abbrev pub satisfied : List ℕ → ℕ → Bool
 satisfied [] x = true
 satisfied (c ∷ cs) x = holds c x && satisfied cs x
 
--- the clauses are over n principals
-abbrev pub Within : ℕ → List ℕ → Type 0
-Within n cs = (c : ℕ) → Member c cs → c < 2 ^ n
-
--- One formula implies another: every set of the n principals that satisfies the first satisfies the second.
+-- Labels, implies: every set of the n principals that satisfies the first formula satisfies the second.
 abbrev pub Entails : ℕ → List ℕ → List ℕ → Type 0
 Entails n cs ds = (x : ℕ) → x < 2 ^ n → T (satisfied cs x) → T (satisfied ds x)
 
@@ -36,7 +33,7 @@ abbrev pub disjunction : List ℕ → List ℕ → List ℕ
 disjunction [] ds = []
 disjunction (c ∷ cs) ds = map (bitOr c) ds ++ disjunction cs ds
 
--- The table of a formula: digit x stands for the set whose mask is x, and says whether it satisfies the formula.
+-- Labels: "bit i of a table stands for the set of principals whose mask is i": whether it satisfies the formula.
 unfoldable pub table : ℕ → List ℕ → ℕ
 table n cs = fromBits (2 ^ n) (satisfied cs)
 
@@ -44,6 +41,6 @@ table n cs = fromBits (2 ^ n) (satisfied cs)
 unfoldable pub implies : ℕ → ℕ → Bool
 implies a b = eqb (bitAnd a b) a
 
--- t is the table of some formula over n principals
+-- t can arise: it is the table of some formula
 abbrev pub Arises : ℕ → ℕ → Type 0
-Arises n t = (cs : List ℕ) × Within n cs × (t ≡ table n cs)
+Arises n t = (cs : List ℕ) × (t ≡ table n cs)

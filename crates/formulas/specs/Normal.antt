@@ -1,4 +1,4 @@
--- The normal form of a formula over n principals: one list of clauses for each table that can arise.
+-- Labels: the normal form of a formula over n principals, one list of clauses for each table that can arise.
 -- Assumes nothing.
 use mathlib.Core.Bool.{Bool, true, false, not, _&&_, _||_}
 use mathlib.Core.List.{List, [], _∷_}
@@ -14,7 +14,7 @@ abbrev pub leads : ℕ → List ℕ → Bool
 leads c [] = true
 leads c (d ∷ ds) = ltb c d && (not (implies c d) && leads c ds)
 
--- Masks of one formula ascend strictly, none is a subset of another, each is below 2 ^ n.
+-- Labels: "Masks of one formula ascend strictly, none is a subset of another, each is at most 63": here below 2 ^ n.
 abbrev pub canonical : ℕ → List ℕ → Bool
 canonical n [] = true
 canonical n (c ∷ cs) = ltb c (2 ^ n) && (leads c cs && canonical n cs)
@@ -24,9 +24,13 @@ abbrev pub allBelow : ℕ → (ℕ → Bool) → Bool
 allBelow zero f = true
 allBelow (suc n) f = f n && allBelow n f
 
+-- the principal p is in the set x, or x with p is in the table t
+abbrev pub passesWith : ℕ → ℕ → ℕ → Bool
+passesWith t x p = bit x p || bit t (bitOr x (2 ^ p))
+
 -- the set x is not in the table t, and is with any one more of the n principals: a maximal false point of the formula
 unfoldable pub maximalFalse : ℕ → ℕ → ℕ → Bool
-maximalFalse n t x = not (bit t x) && allBelow n (λ p. bit x p || bit t (bitOr x (2 ^ p)))
+maximalFalse n t x = not (bit t x) && allBelow n (passesWith t x)
 
 abbrev pub consIf : Bool → ℕ → List ℕ → List ℕ
 consIf true c cs = c ∷ cs
@@ -41,7 +45,7 @@ selected f lo (suc k) = consIf (f lo) lo (selected f (suc lo) k)
 unfoldable pub clauses : ℕ → ℕ → List ℕ
 clauses n t = selected (λ c. maximalFalse n t (2 ^ n - 1 - c)) 0 (2 ^ n)
 
--- Every table that can arise has one such list, and `clauses` gives it.
+-- Labels: "Every table that can arise has one such list, and writing it gives that list."
 pub record Normal (n t : ℕ) : Type 0 where
   pub form : T (canonical n (clauses n t))
   pub same : table n (clauses n t) ≡ t

@@ -16,7 +16,7 @@ use Rattle.formulas.specs.Normal.{leads, canonical}
 use Rattle.formulas.proofs.Bits.{bit-and, same-bits}
 use Rattle.formulas.proofs.Formula.{table-conjunction, table-lt}
 
-pub from-here : (xs : List ℕ) (i : ℕ) → i < length xs → drop i xs ≡ getD xs i 0 ∷ drop (i + 1) xs
+from-here : (xs : List ℕ) (i : ℕ) → i < length xs → drop i xs ≡ getD xs i 0 ∷ drop (i + 1) xs
 from-here xs i h = drop-cons xs i 0 h ∙ ap (λ (k : ℕ). getD xs i 0 ∷ drop k xs) (sym (add-one i))
 
 module _ (c : ℕ) (xs : List ℕ) (j : ℕ) (h : j < length xs) where

@@ -1,5 +1,5 @@
 -- What reading an entry gives, by the tests that the reader makes. Assumes nothing.
-use mathlib.Core.Path.{_≡_, refl, sym, ap, _∙_}
+use mathlib.Core.Path.{_≡_, refl, sym, ap}
 use mathlib.Core.Bool.{Bool, true, false, cond, _&&_}
 use mathlib.Core.List.{List}
 use Prim.Native.Nat.{ℕ, _+_, _-_, _≤_}
@@ -7,9 +7,10 @@ use native.Mathlib.Omega.{arith}
 use lib.Dec.{T, leb, leb→le, le→leb}
 use lib.ListN.{length, take, drop, getD}
 use Rattle.formulas.specs.Normal.{canonical}
-use Rattle.formulas.proofs.Tests.{T-and, T-left, T-right, T-same, T-true}
+use Rattle.formulas.proofs.Tests.{T-and, T-left, T-right, T-same, T-eq, T-true}
 use Rattle.labels.specs.Order.{label}
 use Rattle.labels.specs.Entry.{secrecyMasks, integrityMasks, entryLength, wellFormed, readEntry}
+use Rattle.labels.specs.declared.Label.{Label}
 use Rattle.labels.specs.declared.Entry.{Entry}
 use Rattle.labels.specs.declared.Entry.the-variants.{Read, Malformed}
 
@@ -20,6 +21,12 @@ pub record WellFormed (xs : List ℕ) : Type 0 where
   pub whole : entryLength xs ≤ length xs
   pub secrecy : T (canonical 6 (secrecyMasks xs))
   pub integrity : T (canonical 6 (integrityMasks xs))
+
+-- xs starts with the entry of l, of n bytes
+pub record Reads (xs : List ℕ) (l : Label) (n : ℕ) : Type 0 where
+  pub well : WellFormed xs
+  pub is-label : label (secrecyMasks xs) (integrityMasks xs) ≡ l
+  pub is-length : entryLength xs ≡ n
 
 module _ (a b c d e f : Bool) where
   all-six : T a → T b → T c → T d → T e → T f → T (a && b && c && d && e && f)
@@ -67,6 +74,15 @@ module _ (xs : List ℕ) where
   pub refused : (WellFormed xs → ⊥) → Malformed ≡ readEntry xs
   unfolding readEntry
   refused f = sym (ap (λ (b : Bool). cond b found Malformed) (T-same (wellFormed xs) false (λ t. f (well-formed t)) (λ t. absurd t)))
+
+  -- what is read is what a well-formed entry holds
+  pub reads : (l : Label) (n : ℕ) → readEntry xs ≡ Read l n → Reads xs l n
+  unfolding readEntry
+  reads l n e = go (wellFormed xs) refl e
+    where
+      go : (b : Bool) → wellFormed xs ≡ b → cond b found Malformed ≡ Read l n → Reads xs l n
+      go true w r = record { well = well-formed (T-eq (sym w) tt); is-label = cc; is-length = cc }
+      go false w r = let z : _≡_ {A = ℕ} 0 1 = cc in absurd (omega arith)
 
   -- ---- the parts of the slice that the reader takes
 

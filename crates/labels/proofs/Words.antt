@@ -1,6 +1,6 @@
 -- What the machine computes by shifts and masks, as digits of numbers, and the table of a clause. Assumes nothing.
 use mathlib.Core.Path.{_≡_, refl, sym, ap, ap₂, _∙_}
-use mathlib.Core.Bool.{Bool, true, false, not, _&&_, true≢false, false≢true}
+use mathlib.Core.Bool.{true, false, not, _&&_, true≢false, false≢true}
 use mathlib.Core.List.{List, [], _∷_}
 use Prim.Native.Nat.{ℕ, zero, suc, _+_, _*_, _/_, _%_, _^_, _<_}
 use native.Mathlib.Nat.{mod-lt, one-mul, mod-eq-of-lt, lt-of-le-of-lt}
@@ -38,20 +38,20 @@ digit-none : (x : ℕ) → nonzero x ≡ false → x ≡ 0
 digit-none zero e = refl
 digit-none (suc x) e = absurd (true≢false e)
 
-pub low-with : (m p : ℕ) → bit m p ≡ true → bitOr (m % 2 ^ p) (2 ^ p) ≡ m % 2 ^ suc p
+low-with : (m p : ℕ) → bit m p ≡ true → bitOr (m % 2 ^ p) (2 ^ p) ≡ m % 2 ^ suc p
 unfolding bit
 low-with m p e =
     ap (bitOr (m % 2 ^ p)) (sym (one-mul (2 ^ p))) ∙ or-shifted-r 1 p (m % 2 ^ p) (mod-lt m (pow-pos p))
     ∙ ap (λ (x : ℕ). x * 2 ^ p + m % 2 ^ p) (sym (digit-one (m / 2 ^ p % 2) (omega arith) e)) ∙ sym (low-digits m p)
 
-pub low-without : (m p : ℕ) → bit m p ≡ false → m % 2 ^ p ≡ m % 2 ^ suc p
+low-without : (m p : ℕ) → bit m p ≡ false → m % 2 ^ p ≡ m % 2 ^ suc p
 unfolding bit
 low-without m p e =
     (let z : m % 2 ^ p ≡ 0 * 2 ^ p + m % 2 ^ p = omega arith in z)
     ∙ ap (λ (x : ℕ). x * 2 ^ p + m % 2 ^ p) (sym (digit-none (m / 2 ^ p % 2) e)) ∙ sym (low-digits m p)
 
 -- the table of the union of two clauses is the OR of theirs
-pub clause-or : (n c d : ℕ) → table n (bitOr c d ∷ []) ≡ bitOr (table n (c ∷ [])) (table n (d ∷ []))
+clause-or : (n c d : ℕ) → table n (bitOr c d ∷ []) ≡ bitOr (table n (c ∷ [])) (table n (d ∷ []))
 clause-or n c d = table-disjunction n (c ∷ []) (d ∷ [])
 
 module _ (n m p t : ℕ) (e : t ≡ table n (m % 2 ^ p ∷ [])) where
@@ -79,7 +79,7 @@ unfolding table holds
 no-member m = ap (λ (x : ℕ). table 6 (x ∷ [])) (let e : 0 ≡ m % 1 = omega arith in e)
 
 -- principals past the n-th do not matter
-pub table-mod : (n m : ℕ) → table n (m % 2 ^ n ∷ []) ≡ table n (m ∷ [])
+table-mod : (n m : ℕ) → table n (m % 2 ^ n ∷ []) ≡ table n (m ∷ [])
 unfolding table holds
 table-mod n m =
     fromBits-same (2 ^ n) (satisfied (m % 2 ^ n ∷ [])) (satisfied (m ∷ [])) (λ x h. ap (λ (y : ℕ). nonzero y && true) (same x h))

@@ -1,3 +1,4 @@
 -- The definitions that the contracts of `labels` cite.
 pub mod Order
 pub mod Entry
+pub mod Cases

@@ -1,14 +1,12 @@
 ghost use mathlib.Core.Path.{_≡_};
-ghost use mathlib.Core.Bool.{_||_};
-ghost use mathlib.Core.List.{[], _∷_, _++_};
+ghost use mathlib.Core.List.{[], _∷_};
 ghost use Prim.Native.Nat.{_<_, _≤_, _^_};
-ghost use lib.Bits.{bitOr};
 ghost use lib.ListN.{length, drop};
 ghost use Rattle.formulas.specs.Bits.{bit};
 ghost use Rattle.formulas.specs.Formula.{table, implies};
-ghost use Rattle.formulas.specs.Normal.{leads, canonical, maximalFalse, clauses};
+ghost use Rattle.formulas.specs.Normal.{leads, canonical, passesWith, maximalFalse, clauses};
 ghost use Rattle.labels.specs.Order.{flows, join, meet};
-ghost use Rattle.labels.specs.Entry.{readEntry};
+ghost use Rattle.labels.specs.Entry.{readEntry, writeAnswer, writeBuffer};
 
 // A label ⟨S, I⟩: the tables of its secrecy and its integrity formula. Bit i of a table stands for the set of
 // principals whose mask is i.
@@ -176,6 +174,95 @@ const SINGLE: [u64; 6] = [
     0xFFFF_FFFF_0000_0000,
 ];
 
+// ---- writing a label entry
+
+// Writes the entry of `l` to the start of `out`, or leaves `out` alone where it has no room.
+pub fn write_entry(l: Label, out: &mut [u8]) -> Written
+    ensures { λ r. ⌜ (r ≡ writeAnswer l (now (out .entry))) × (now (out .exit) ≡ writeBuffer l (now (out .entry))) ⌝ }
+{
+    let secrecy = l.secrecy;
+    let integrity = l.integrity;
+    let m = count_clauses(secrecy);
+    let n = count_clauses(integrity);
+    let a = 2 + m;
+    let e = a + n;
+    if out.len() < e {
+        return Written::TooShort;
+    }
+    out[0] = m as u8;
+    out[1] = n as u8;
+    write_clauses(secrecy, &mut out[2..a]);
+    write_clauses(integrity, &mut out[a..e]);
+    Written::Bytes(e)
+}
+
+// How many clauses the one list of the table `t` has.
+fn count_clauses(t: u64) -> usize
+    ensures { λ r. ⌜ r ≡ length (clauses 6 t) ⌝ }
+{
+    let mut n: usize = 0;
+    let mut c: u64 = 0;
+    while c < 64 {
+        if maximal_false(t, 63 - c) {
+            n += 1;
+        }
+        c += 1;
+    }
+    n
+}
+
+// Writes the one list of clauses of the table `t` over `out`, which has its length.
+fn write_clauses(t: u64, out: &mut [u8])
+    requires { ⌜ length (now out) ≡ length (clauses 6 t) ⌝ }
+    ensures { λ r. ⌜ now (out .exit) ≡ clauses 6 t ⌝ }
+{
+    let mut n: usize = 0;
+    let mut mask: u64 = 0;
+    while mask < 64 {
+        if maximal_false(t, 63 - mask) {
+            out[n] = mask as u8;
+            n += 1;
+        }
+        mask += 1;
+    }
+}
+
+// Whether the set `x` is not in the table `t`, and is with any one more principal.
+fn maximal_false(t: u64, x: u64) -> bool
+    requires { ⌜ x < 64 ⌝ }
+    ensures { λ r. ⌜ r ≡ maximalFalse 6 t x ⌝ }
+{
+    if has(t, x) {
+        return false;
+    }
+    let mut p: u64 = 0;
+    while p < 6 {
+        if !passes_with(t, x, p) {
+            return false;
+        }
+        p += 1;
+    }
+    true
+}
+
+// Whether `p` is in the set `x`, or `x` with `p` is in the table `t`.
+fn passes_with(t: u64, x: u64, p: u64) -> bool
+    requires { ⌜ (x < 64) × (p < 6) ⌝ }
+    ensures { λ r. ⌜ r ≡ passesWith t x p ⌝ }
+{
+    has(x, p) || has(t, x | singleton(p))
+}
+
+// The set of the one principal `p`.
+fn singleton(p: u64) -> u64
+    requires { ⌜ p < 6 ⌝ }
+    ensures { λ r. ⌜ r ≡ 2 ^ p ⌝ }
+{
+    1 << p
+}
+
+// ---- bits
+
 // Bit `i` of `t`: whether the set `i` is in the table `t`, or the principal `i` in the set `t`.
 fn has(t: u64, i: u64) -> bool
     requires { ⌜ i < 64 ⌝ }
@@ -184,6 +271,7 @@ fn has(t: u64, i: u64) -> bool
     t >> i & 1 != 0
 }
 
+// The byte `x`, as wide as a table.
 fn wide(x: u8) -> u64
     ensures { λ r. ⌜ r ≡ x ⌝ }
 {

@@ -1,15 +1,13 @@
--- `labels::canonical` satisfied its contract. The loop's invariant: what is said of all the masks is said of selected from `i` on.
+-- `labels::canonical` meets its contract. The loop's invariant: what is said of all the masks is said of those from `i` on.
 -- Assumes nothing.
-use mathlib.Core.Path.{_≡_, refl, sym, ap, _∙_, subst}
-use Prim.Native.Nat.{_≤_, _<_, _-_, _+_}
+use mathlib.Core.Path.{_≡_, sym, _∙_}
+use Prim.Native.Nat.{_≤_, _-_}
 use native.Mathlib.Omega.{arith}
 use borrow.Author.Needs.{needs}
 use borrow.Author.Tests.{not-true, not-false}
-use lib.ListN.{length, drop, getD}
-use lib.Bits.{bitAnd}
-use Rattle.formulas.specs.Formula.{table}
+use lib.ListN.{length, drop}
 use Rattle.formulas.specs.Normal.{canonical}
-use Rattle.labels.proofs.Masks.{canon-wide, canon-led, canon-on, canon-end, table-start, table-step, table-end}
+use Rattle.labels.proofs.Masks.{canon-wide, canon-led, canon-on, canon-end}
 use Rattle.labels.proofs.canonical.Statement.{statement}
 use Rattle.labels.proofs.canonical.Tie as tie
 

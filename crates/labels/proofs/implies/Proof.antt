@@ -1,4 +1,4 @@
--- `labels::implies` satisfied its contract. Assumes nothing.
+-- `labels::implies` meets its contract. Assumes nothing.
 use native.Mathlib.Omega.{arith}
 use Rattle.formulas.proofs.Implication.{implies-test}
 use Rattle.labels.proofs.implies.Statement.{statement}

@@ -1,10 +1,10 @@
--- `labels::leads` satisfied its contract. The loop's invariant: what is said of the masks from `from` on is said of selected from `j` on.
+-- `labels::leads` meets its contract. The loop's invariant: what is said of the masks from `from` on is said of those from `j` on.
 -- Assumes nothing.
-use mathlib.Core.Path.{_≡_, refl, sym, ap, _∙_, subst}
-use Prim.Native.Nat.{_≤_, _<_, _-_, _+_}
+use mathlib.Core.Path.{_≡_, sym, _∙_}
+use Prim.Native.Nat.{_≤_, _-_}
 use native.Mathlib.Omega.{arith}
 use borrow.Author.Needs.{needs}
-use lib.ListN.{length, drop, getD}
+use lib.ListN.{length, drop}
 use Rattle.formulas.specs.Normal.{leads}
 use Rattle.labels.proofs.Masks.{leads-below, leads-subset, leads-on, leads-end}
 use Rattle.labels.proofs.leads.Statement.{statement}

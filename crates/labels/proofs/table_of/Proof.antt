@@ -1,16 +1,15 @@
--- `labels::table_of` satisfied its contract. The loop's invariant: what is said of all the masks is said of selected from `i` on.
+-- `labels::table_of` meets its contract. The loop's invariant: what is said of all the masks is said of those from `i` on.
 -- Assumes nothing.
-use mathlib.Core.Path.{_≡_, refl, sym, ap, _∙_, subst}
+use mathlib.Core.Path.{_≡_, ap, _∙_}
 use mathlib.Core.List.{[], _∷_}
-use Prim.Native.Nat.{ℕ, _≤_, _<_, _-_, _+_, _^_}
+use Prim.Native.Nat.{ℕ, _≤_, _<_, _-_, _^_}
 use native.Mathlib.Omega.{arith}
 use borrow.Author.Needs.{needs}
-use lib.ListN.{length, drop, getD}
+use lib.ListN.{length, drop}
 use lib.Bits.{bitAnd, and-le-l}
 use native.Mathlib.Nat.{lt-of-le-of-lt}
 use Rattle.formulas.specs.Formula.{table}
-use Rattle.formulas.specs.Normal.{canonical}
-use Rattle.labels.proofs.Masks.{canon-wide, canon-led, canon-on, canon-end, table-start, table-step, table-end}
+use Rattle.labels.proofs.Masks.{table-start, table-step, table-end}
 use Rattle.labels.proofs.table_of.Statement.{statement}
 use Rattle.labels.proofs.table_of.Tie as tie
 

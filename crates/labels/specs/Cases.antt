@@ -1,0 +1,56 @@
+-- Bench cases: P1 to P8, each a test, as the start of one table. Assumes nothing.
+use mathlib.Core.Bool.{Bool, true, not, _&&_}
+use mathlib.Core.List.{List, [], _∷_}
+use Prim.Native.Nat.{ℕ}
+use lib.Dec.{eqb}
+use Rattle.formulas.specs.Formula.{table}
+use Rattle.labels.specs.Order.{label, flows, join}
+use Rattle.labels.specs.declared.Label.{Label}
+
+-- the case P number, and whether it holds
+pub record Case : Type 0 where
+  pub number : ℕ
+  pub holds : Bool
+
+abbrev pub allHold : List Case → Bool
+allHold [] = true
+allHold (c ∷ cs) = c .holds && allHold cs
+
+-- the list of clauses has this table
+abbrev pub tableIs : List ℕ → ℕ → Bool
+tableIs cs t = eqb (table 6 cs) t
+
+-- a flows to b, and not back
+abbrev pub oneWay : Label → Label → Bool
+oneWay a b = flows a b && not (flows b a)
+
+abbrev pub sameLabel : Label → Label → Bool
+sameLabel a b = eqb (a .secrecy) (b .secrecy) && eqb (a .integrity) (b .integrity)
+
+-- formulas, as lists of clauses
+abbrev pub player : List ℕ
+player = 0x01 ∷ []
+
+abbrev pub dealer : List ℕ
+dealer = 0x02 ∷ []
+
+abbrev pub bench : List ℕ
+bench = 0x04 ∷ []
+
+abbrev pub playerOrDealer : List ℕ
+playerOrDealer = 0x03 ∷ []
+
+abbrev pub playerAndDealer : List ℕ
+playerAndDealer = 0x01 ∷ 0x02 ∷ []
+
+abbrev pub labelCases : List Case
+labelCases =
+    record { number = 1; holds = tableIs [] 0xFFFF_FFFF_FFFF_FFFF }
+    ∷ record { number = 2; holds = tableIs (0x01 ∷ []) 0xAAAA_AAAA_AAAA_AAAA }
+    ∷ record { number = 3; holds = tableIs (0x03 ∷ []) 0xEEEE_EEEE_EEEE_EEEE }
+    ∷ record { number = 4; holds = tableIs (0x01 ∷ 0x02 ∷ []) 0x8888_8888_8888_8888 }
+    ∷ record { number = 5; holds = tableIs (0x00 ∷ []) 0 }
+    ∷ record { number = 6; holds = oneWay (label playerOrDealer []) (label player []) }
+    ∷ record { number = 7; holds = oneWay (label [] bench) (label [] []) }
+    ∷ record { number = 8; holds = sameLabel (join (label player []) (label dealer bench)) (label playerAndDealer []) }
+    ∷ []
