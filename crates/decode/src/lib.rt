@@ -93,8 +93,8 @@ pub fn size_of(op: u8) -> usize
     1
 }
 
-// An operand of one byte or of two, as an index.
-fn index_at(s: &[u8], i: usize) -> usize
+// An operand of one byte, and one of two, as an index.
+pub fn index_at(s: &[u8], i: usize) -> usize
     ensures { λ r. ⌜ r ≡ byte (now (s .entry)) i ⌝ }
 {
     byte_at(s, i) as usize

@@ -1,5 +1,6 @@
 // Loads each file of standard input and prints the answer. A line has how many zero bytes the file ends with, its other
-// bytes in hexadecimal, and what is tried, parted by single spaces.
+// bytes in hexadecimal, and what is tried, parted by single spaces. The answers to compare with come from a second
+// reading of the file's rules, made apart from this code.
 ghost use Prim.Native.Nat.{_≤_, _<_};
 ghost use lib.ListN.{length};
 use libc::STDIN_FILENO;
@@ -71,10 +72,7 @@ fn fill(hex: &[u8], file: &mut [u8]) -> usize
         file[i] = byte(hex[2 * i], hex[2 * i + 1]);
         i += 1;
     }
-    if file.len() < n {
-        return 0;
-    }
-    n
+    i
 }
 
 fn tell(answer: Loaded) {
@@ -89,6 +87,15 @@ fn tell(answer: Loaded) {
     }
 }
 
+// Loads the first `size` bytes.
+fn try_file(file: &[u8], size: usize) {
+    if file.len() < size {
+        return;
+    }
+    let mut labels = [0u64; 64];
+    tell(script_file::load(&file[0..size], &mut labels));
+}
+
 fn try_line(line: &[u8]) {
     let a = find(line, 0, b' ');
     if a == line.len() {
@@ -98,21 +105,13 @@ fn try_line(line: &[u8]) {
     let e = find(line, start, b' ');
     let mut file = [0u8; ROOM];
     let n = fill(&line[start..e], &mut file);
-    let size = n + decimal(&line[..a]);
-    if ROOM < size {
-        return;
-    }
-    let mut labels = [0u64; 64];
-    tell(script_file::load(&file[..size], &mut labels));
+    try_file(&file, n + decimal(&line[0..a]));
     io::write_all(STDOUT_FILENO, b":");
     io::write_all(STDOUT_FILENO, &line[e..]);
     io::write_all(STDOUT_FILENO, b"\n");
 }
 
-fn main() {
-    let mut space = io::large_buffer();
-    let n = io::read_full(STDIN_FILENO, &mut space);
-    let text = &space[..n];
+fn try_lines(text: &[u8]) {
     let mut at: usize = 0;
     while at < text.len() {
         let e = find(text, at, b'\n');
@@ -122,4 +121,10 @@ fn main() {
         }
         at = e + 1;
     }
+}
+
+fn main() {
+    let mut space = io::large_buffer();
+    let n = io::read_full(STDIN_FILENO, &mut space);
+    try_lines(&space[..n]);
 }

@@ -3,15 +3,18 @@ use mathlib.Core.Bool.{Bool, true, false, cond}
 use mathlib.Core.List.{List, [], _∷_}
 use mathlib.Core.Path.{_≡_, refl, ap, sym, _∙_}
 use Prim.Native.Nat.{ℕ, zero, suc}
+use native.Mathlib.Omega.{arith}
 use lib.Dec.{eqb, eqb·suc-zero}
-use lib.ListN.{getD}
+use lib.ListN.{length, getD}
 use Rattle.script_file.specs.Sections.{header, fileLabels, orNone}
 use Rattle.script_file.specs.Checks.{passes1, passes2, passes3, passes4, passes5, passes6, passes7, lowest, refusal}
 use Rattle.script_file.specs.Loading.{number, numberOf, refusals, answer, loaded, labelWords, wordsAfter}
 use Rattle.script_file.specs.declared.Header.{Header}
+use Rattle.script_file.specs.declared.Refusal.{Refusal}
 use Rattle.script_file.specs.declared.Refusal.the-variants.{Code}
 use Rattle.script_file.specs.declared.Loaded.{Loaded}
 use Rattle.script_file.specs.declared.Loaded.the-variants.{Refused, File}
+use Rattle.script_file.proofs.Limits.{Counted, counted, Placed, placed}
 
 -- The answer's number is the lowest that applies.
 pub answer-number : (bs : List ℕ) → numberOf (loaded bs) ≡ refusal bs
@@ -26,6 +29,54 @@ answer-number bs = each (passes1 bs) (passes2 bs) (passes3 bs) (passes4 bs) (pas
   each true true true true true false g = refl
   each true true true true true true false = refl
   each true true true true true true true = refl
+
+pub refused-number : (bs : List ℕ) (r : Refusal) → Refused r ≡ loaded bs → number r ≡ refusal bs
+unfolding numberOf
+refused-number bs r e = ap numberOf e ∙ answer-number bs
+
+pub file-number : (bs : List ℕ) (h : Header) → File h ≡ loaded bs → refusal bs ≡ 0
+unfolding numberOf
+file-number bs h e = sym (ap numberOf e ∙ answer-number bs)
+
+pub file-header : (bs : List ℕ) (h : Header) → File h ≡ loaded bs → h ≡ header bs
+unfolding loaded
+file-header bs h e = let same : File h ≡ File (header bs) = e ∙ ap (λ (n : ℕ). answer n (header bs)) (file-number bs h e) in cc
+
+all-pass : (a b c d e f g : Bool) → lowest 1 (a ∷ b ∷ c ∷ d ∷ e ∷ f ∷ g ∷ []) ≡ 0
+    → (a ≡ true) × (b ≡ true) × (c ≡ true) × (d ≡ true) × (e ≡ true) × (f ≡ true) × (g ≡ true)
+all-pass true true true true true true true z = (refl, refl, refl, refl, refl, refl, refl)
+all-pass false b c d e f g z = absurd (omega arith)
+all-pass true false c d e f g z = absurd (omega arith)
+all-pass true true false d e f g z = absurd (omega arith)
+all-pass true true true false e f g z = absurd (omega arith)
+all-pass true true true true false f g z = absurd (omega arith)
+all-pass true true true true true false g z = absurd (omega arith)
+all-pass true true true true true true false z = absurd (omega arith)
+
+-- A file that is not refused passes each check.
+pub record Accepted (bs : List ℕ) : Type 0 where
+  pub size : passes1 bs ≡ true
+  pub counts : passes2 bs ≡ true
+  pub offsets : passes3 bs ≡ true
+  pub labels : passes4 bs ≡ true
+  pub start : passes5 bs ≡ true
+  pub records : passes6 bs ≡ true
+  pub code : passes7 bs ≡ true
+
+pub accepted : (bs : List ℕ) → refusal bs ≡ 0 → Accepted bs
+unfolding refusal
+accepted bs none =
+    let p = all-pass (passes1 bs) (passes2 bs) (passes3 bs) (passes4 bs) (passes5 bs) (passes6 bs) (passes7 bs) none in
+    record { size = p .0; counts = p .1; offsets = p .2; labels = p .3; start = p .4; records = p .5; code = p .6 }
+
+-- So its sections lie within it, and its counts within their limits.
+pub within-limits : (bs : List ℕ) → refusal bs ≡ 0 → Counted (header bs)
+unfolding passes2
+within-limits bs none = counted (header bs) (accepted bs none .counts)
+
+pub in-place : (bs : List ℕ) → refusal bs ≡ 0 → Placed (header bs) (length bs)
+unfolding passes3
+in-place bs none = placed (header bs) (length bs) (accepted bs none .offsets)
 
 -- what a refusal, and what a file that loads, promises of the answer and of the words
 pub refuses : (bs ws : List ℕ) (n : ℕ) → refusal bs ≡ suc n → (Refused (getD refusals n Code) ≡ loaded bs) × (ws ≡ wordsAfter bs ws)

@@ -10,12 +10,13 @@ use Rattle.labels.specs.Order.{flows}
 use Rattle.labels.specs.declared.Label.{Label}
 use Rattle.script_file.specs.Sections.{header, labelBytes, recordBytes, codeBytes, readLabels, fileLabels, labelAt, orNone}
 use Rattle.script_file.specs.Sweep.{codeOk}
-use Rattle.script_file.specs.Checks.{sizeOk, countsOk, offsetsOk, recordsOk, passes1, passes2, passes3, passes4, passes5, passes6, passes7}
+use Rattle.script_file.specs.Checks.{sizeOk, countsOk, offsetsOk, recordsOk, passes1, passes2, passes3, passes4, passes5, passes6, passes7, refusal}
 use Rattle.script_file.specs.Loading.{labelWords}
 use Rattle.script_file.specs.Parts.{tableOf, labelIn}
 use Rattle.script_file.specs.declared.Header.{Header}
 use Rattle.script_file.specs.declared.Table.{Table}
-use Rattle.script_file.proofs.Labels.{words-hold}
+use Rattle.script_file.proofs.Labels.{words-hold, words-hold-any, labels-few}
+use Rattle.script_file.proofs.Answers.{within-limits}
 
 module _ (bs : List ℕ) where
   pub finds1 : (b : Bool) → sizeOk (length bs) ≡ b → passes1 bs ≡ b
@@ -66,3 +67,11 @@ module _ (bs : List ℕ) where
         (label-in 0 (words-hold (orNone (fileLabels bs)) 0 (omega arith)))
         (label-in 1 (words-hold (orNone (fileLabels bs)) 1 (omega arith)))
         ∙ e
+
+-- The words of a file that is not refused hold its labels, at any index.
+pub words-are-labels : (bs : List ℕ) → refusal bs ≡ 0 → (i : ℕ) → labelIn (labelWords (orNone (fileLabels bs))) i ≡ labelAt bs i
+unfolding labelAt fileLabels
+words-are-labels bs none i =
+    let few = labels-few (header bs .labels .count) (labelBytes bs) in
+    let most = within-limits bs none .labels in
+    words-hold-any (orNone (fileLabels bs)) (omega arith) i

@@ -5,14 +5,15 @@ use mathlib.Core.Option.{Option, none, some}
 use mathlib.Core.Path.{_≡_, refl, sym, ap, ap₂, subst, _∙_}
 use Prim.Native.Nat.{ℕ, zero, suc, _+_, _*_, _≤_, _<_}
 use native.Mathlib.Omega.{arith}
-use lib.Dec.{T}
-use lib.ListN.{length, getD, set, drop, length-append}
+use lib.Dec.{T, ltb}
+use borrow.Author.Tests.{ltb-true, ltb-false}
+use lib.ListN.{length, getD, set, drop, length-append, List·getD-eq-default}
 use Rattle.labels.specs.Entry.{wellFormed, readEntry, entryLength}
 use Rattle.labels.specs.declared.Label.{Label}
 use Rattle.labels.specs.declared.Entry.{Entry}
 use Rattle.labels.specs.declared.Entry.the-variants.{Read, Malformed}
 use Rattle.labels.proofs.Reading.{well-formed, found}
-use Rattle.script_file.specs.Sections.{consLabel, readLabels, noneLeft, orNone}
+use Rattle.script_file.specs.Sections.{consLabel, labelsAfter, readLabels, noneLeft, orNone}
 use Rattle.script_file.specs.Checks.{present}
 use Rattle.script_file.specs.Loading.{tables, padded, labelWords}
 use Rattle.script_file.specs.Parts.{tableOf, labelIn}
@@ -115,3 +116,39 @@ unfolding labelWords
 words-hold ls i h =
     ap₂ (λ (a b : ℕ). record { secrecy = a; integrity = b }) (padded-at 64 (tables ls) (2 * i) (omega arith)) (padded-at 64 (tables ls) (2 * i + 1) (omega arith))
     ∙ tables-at ls i
+
+-- ── how many labels there are ──
+
+cons-few : (n : ℕ) (l : Label) (o : Option (List Label)) → length (orNone o) ≤ n → length (orNone (consLabel l o)) ≤ suc n
+cons-few n l none h = omega arith
+cons-few n l (some ls) h = omega arith
+
+after-few : (n : ℕ) (rest : ℕ → Option (List Label)) → ((k : ℕ) → length (orNone (rest k)) ≤ n) → (e : Entry) → length (orNone (labelsAfter rest e)) ≤ suc n
+after-few n rest few (Read l k) = cons-few n l (rest k) (few k)
+after-few n rest few Malformed = omega arith
+
+pub labels-few : (n : ℕ) (bs : List ℕ) → length (orNone (readLabels n bs)) ≤ n
+unfolding readLabels
+labels-few zero [] = omega arith
+labels-few zero (b ∷ bs) = omega arith
+labels-few (suc n) bs = after-few n (λ k. readLabels n (drop k bs)) (λ k. labels-few n (drop k bs)) (readEntry bs)
+
+length-padded : (n : ℕ) (xs : List ℕ) → length (padded n xs) ≡ n
+length-padded zero xs = refl
+length-padded (suc n) [] = ap suc (length-padded n [])
+length-padded (suc n) (x ∷ xs) = ap suc (length-padded n xs)
+
+past-padded : (n : ℕ) (xs : List ℕ) (k : ℕ) → n ≤ k → getD (padded n xs) k 0 ≡ 0
+past-padded n xs k h = List·getD-eq-default (padded n xs) 0 {n = k} (rw (length-padded n xs) h)
+
+-- Where there are at most 32 labels the words hold each, and ⟨False, False⟩ at any index past them.
+pub words-hold-any : (ls : List Label) → length ls ≤ 32 → (i : ℕ) → labelIn (labelWords ls) i ≡ getD ls i noLabel
+unfolding labelWords
+words-hold-any ls few i = by (ltb i 32) refl where
+  by : (b : Bool) → ltb i 32 ≡ b → labelIn (padded 64 (tables ls)) i ≡ getD ls i noLabel
+  by true e = words-hold ls i (ltb-true i 32 e)
+  by false e =
+      let far : 32 ≤ i = ltb-false i 32 e in
+      ap₂ (λ (a b : ℕ). record { secrecy = a; integrity = b })
+      (past-padded 64 (tables ls) (2 * i) (omega arith)) (past-padded 64 (tables ls) (2 * i + 1) (omega arith))
+      ∙ sym (List·getD-eq-default ls noLabel {n = i} (omega arith))

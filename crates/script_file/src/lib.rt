@@ -1,13 +1,13 @@
 // A script file: its header, and the checks that stop it.
 ghost use mathlib.Core.Path.{_≡_};
-ghost use mathlib.Core.Bool.{true, false};
+ghost use mathlib.Core.Bool.{false};
 ghost use mathlib.Core.Option.{none};
-ghost use Prim.Native.Nat.{_+_, _*_, _≤_, _<_, _^_};
+ghost use Prim.Native.Nat.{_≤_, _<_, _^_};
 ghost use lib.ListN.{length, getD};
 ghost use Rattle.labels.specs.Order.{flows};
 ghost use Rattle.model.specs.Decoding.{u16};
 ghost use Rattle.script_file.specs.Sections.{section, header, readLabels};
-ghost use Rattle.script_file.specs.Sweep.{starts, all, lastOf, operandsOk, instrOk, mayBeLast, codeOk};
+ghost use Rattle.script_file.specs.Sweep.{starts, all, lastOf, instrOk, mayBeLast, codeOk};
 ghost use Rattle.script_file.specs.Checks.{sizeOk, countsOk, offsetsOk, recordsOk};
 ghost use Rattle.script_file.specs.Loading.{number, loaded, wordsAfter};
 ghost use Rattle.script_file.specs.Parts.{Short, Shorts, tableOf, labelIn, mark, Marks, OperandsIn};
@@ -47,7 +47,7 @@ pub enum Loaded {
     File(Header),
 }
 
-// The number of a refusal.
+// The number of the check that refuses.
 pub fn number(r: Refusal) -> u64
     ensures { λ n. ⌜ n ≡ number r ⌝ }
 {
@@ -99,7 +99,7 @@ fn read_header(file: &[u8]) -> Header
     }
 }
 
-// Check 1.
+// Check 1: at least 16 bytes, and at most 65,535.
 fn size_ok(n: usize) -> bool
     ensures { λ r. ⌜ r ≡ sizeOk n ⌝ }
 {
@@ -109,7 +109,7 @@ fn size_ok(n: usize) -> bool
     n <= 65535
 }
 
-// Check 2.
+// Check 2: each count within its limits.
 fn counts_ok(h: Header) -> bool
     ensures { λ r. ⌜ r ≡ countsOk h ⌝ }
 {
@@ -140,7 +140,7 @@ fn counts_ok(h: Header) -> bool
     h.places <= 256
 }
 
-// Check 3. The numbers are short, so that the sums are exact.
+// Check 3: the sections follow each other from byte 16 to the file's end. The numbers are short, so no sum wraps.
 fn offsets_ok(h: Header, n: usize) -> bool
     requires { ⌜ Shorts h ⌝ }
     ensures { λ r. ⌜ r ≡ offsetsOk h n ⌝ }
@@ -211,7 +211,7 @@ fn start_ok(words: [u64; 64]) -> bool
 
 // ---- input records
 
-// Check 6.
+// Check 6: each record's kind is 0 or 1, and its label one of the file's.
 fn records_ok(bytes: &[u8], count: usize, labels: usize) -> bool
     requires { ⌜ count ≤ 64 ⌝ }
     ensures { λ r. ⌜ r ≡ recordsOk labels (now (bytes .entry)) count 0 ⌝ }
@@ -222,18 +222,12 @@ fn records_ok(bytes: &[u8], count: usize, labels: usize) -> bool
         if 1 < decode::byte_at(bytes, at) {
             return false;
         }
-        if labels <= index_at(bytes, at + 1) {
+        if labels <= decode::index_at(bytes, at + 1) {
             return false;
         }
         i += 1;
     }
     true
-}
-
-fn index_at(s: &[u8], i: usize) -> usize
-    ensures { λ r. ⌜ r ≡ getD (now (s .entry)) i 0 ⌝ }
-{
-    decode::byte_at(s, i) as usize
 }
 
 // ---- code
@@ -336,7 +330,7 @@ fn may_be_last(op: u8) -> bool
     op == 0x1C
 }
 
-// Check 7.
+// Check 7: the sweep that marks the starts, then the instructions against the marks, so that the time is linear.
 fn code_ok(code: &[u8], labels: usize, inputs: usize) -> bool
     requires { ⌜ length (now code) ≤ 4096 ⌝ }
     ensures { λ r. ⌜ r ≡ codeOk labels inputs (now (code .entry)) ⌝ }
@@ -351,8 +345,9 @@ fn code_ok(code: &[u8], labels: usize, inputs: usize) -> bool
 
 // ---- the file
 
-// Loads a file: refused with the lowest check that stops it, or its header, with its labels' words in `labels`. A refusal
-// leaves `labels` as it was.
+// Loads a file of any length. The answer is the refusal of the first check that stops it, or its header; the code and the
+// input records stay in the file, where the header says. The labels of a file that loads are put into `labels`, label i at
+// words 2 i and 2 i + 1, and 0 behind them; a refusal leaves `labels` as it was.
 pub fn load(file: &[u8], labels: &mut [u64; 64]) -> Loaded
     ensures { λ r. ⌜ (r ≡ loaded (now (file .entry))) × (now (labels .exit) ≡ wordsAfter (now (file .entry)) (now (labels .entry))) ⌝ }
 {

