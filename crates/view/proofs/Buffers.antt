@@ -1,12 +1,12 @@
 -- A buffer that is written piece by piece from its start on. Assumes nothing.
-use mathlib.Core.Path.{_≡_, refl, sym, ap, ap₂, _∙_, subst}
+use mathlib.Core.Path.{_≡_, refl, sym, ap, ap₂, _∙_}
 use mathlib.Core.List.{List, [], _∷_, _++_, append-assoc, append-nil}
-use Prim.Native.Nat.{ℕ, zero, suc, _+_, _-_, _≤_, _<_}
+use Prim.Native.Nat.{ℕ, _+_, _-_, _≤_, _<_}
 use native.Mathlib.Numerals.{add-one}
 use native.Mathlib.Nat.{zero-add}
 use native.Mathlib.Omega.{arith}
 use lib.ListN.{length, take, drop, set, length-append, length-take, length-drop, take-append-drop, drop-of-length-le}
-use lib.Seq.{length-take-le, take-all, take-at, drop-at, drop-drop, set-split, drop-length}
+use lib.Seq.{length-take-le, take-all, take-at, drop-at, drop-drop, set-split}
 use Rattle.view.specs.Writing.{over}
 
 -- The buffer was b₀ and is b, written up to i. Once `left` is written too, from i on, it is b₀ with `whole` over its start.

@@ -281,8 +281,8 @@ fn write_counts(reader: Label, steps: usize, finish: Finish, out: &mut [u8])
     ensures { λ _. ⌜ now (out .exit) ≡ over (counts (reads reader) steps (finish .ending) (closing finish)) (now (out .entry)) ⌝ }
 {
     let ending = finish.ending;
-    let label = finish.label;
-    if labels::flows(label, reader) {
+    let last = finish.label;
+    if labels::flows(last, reader) {
         write_number(ending_number(ending), NUMBER, out);
         write_number(used(steps, finish.steps) as u64, NUMBER, &mut out[USED..]);
         write_number(finish.next as u64, NUMBER, &mut out[NEXT..]);

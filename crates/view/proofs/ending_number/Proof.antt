@@ -3,8 +3,6 @@ use Rattle.view.specs.Layout.{endingNumber}
 use borrow.Author.Needs.{needs}
 use Rattle.view.proofs.ending_number.Statement.{statement}
 use Rattle.view.proofs.ending_number.Tie as tie
-use Rattle.view.proofs.ending_number.Reads as reads
-use Rattle.view.proofs.ending_number.Lts as lts
 
 enum-told : tie.Need-enum-told
 enum-told c = search needs

@@ -4,8 +4,6 @@ use borrow.Author.Tests.{lt-ltb, le-ltb}
 use borrow.Author.Needs.{needs}
 use Rattle.view.proofs.hex_digit.Statement.{statement}
 use Rattle.view.proofs.hex_digit.Tie as tie
-use Rattle.view.proofs.hex_digit.Reads as reads
-use Rattle.view.proofs.hex_digit.Lts as lts
 
 add-result : tie.Need-add-result
 add-result c = search needs

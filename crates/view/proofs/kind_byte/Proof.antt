@@ -3,8 +3,6 @@ use Rattle.view.specs.Layout.{kindByte}
 use borrow.Author.Needs.{needs}
 use Rattle.view.proofs.kind_byte.Statement.{statement}
 use Rattle.view.proofs.kind_byte.Tie as tie
-use Rattle.view.proofs.kind_byte.Reads as reads
-use Rattle.view.proofs.kind_byte.Lts as lts
 
 enum-told : tie.Need-enum-told
 enum-told c = search needs

@@ -1,14 +1,9 @@
 -- `view::line_length` meets its contract. Assumes nothing.
-use mathlib.Core.Path.{_≡_, refl, sym, ap, ap₂, _∙_}
 use native.Mathlib.Omega.{arith}
 use Rattle.view.proofs.Printing.{length-line}
 use borrow.Author.Needs.{needs}
 use Rattle.view.proofs.line_length.Statement.{statement}
 use Rattle.view.proofs.line_length.Tie as tie
-use Rattle.view.proofs.line_length.Reads as reads
-use Rattle.view.proofs.line_length.Lts as lts
-use Rattle.view.proofs.cut.Reads as cut-reads
-use Rattle.view.proofs.number_at.Reads as number-at-reads
 
 number-at-requires : tie.Need-number-at-requires
 number-at-requires c κs = search needs

@@ -1,14 +1,12 @@
 -- `view::number_at` meets its contract. Assumes nothing.
-use mathlib.Core.Path.{_≡_, refl, sym, ap, ap₂, _∙_}
+use mathlib.Core.Path.{refl}
 use native.Mathlib.Omega.{arith}
-use Prim.Native.Nat.{ℕ, _+_, _-_, _*_, _≤_, _<_}
+use Prim.Native.Nat.{_+_, _-_}
 use Rattle.model.specs.Decoding.{u16}
 use Rattle.view.proofs.Printing.{number-none, number-one}
 use borrow.Author.Needs.{needs}
 use Rattle.view.proofs.number_at.Statement.{statement}
 use Rattle.view.proofs.number_at.Tie as tie
-use Rattle.view.proofs.number_at.Reads as reads
-use Rattle.view.proofs.number_at.Lts as lts
 
 returns : tie.Need-returns
 returns c = (omega arith, number-none (c .before .args .bytes .now) (c .before .args .i) (omega arith))

@@ -1,7 +1,7 @@
 -- `view::records_shown` meets its contract. Assumes nothing.
-use mathlib.Core.Path.{_≡_, refl, sym, ap, ap₂, _∙_}
+use mathlib.Core.Path.{_≡_, ap, _∙_}
 use native.Mathlib.Omega.{arith}
-use Prim.Native.Nat.{ℕ, _+_, _-_, _*_, _≤_, _<_}
+use Prim.Native.Nat.{_+_, _-_, _≤_, _<_}
 use lib.ListN.{drop}
 use Rattle.store.specs.Slots.{slots}
 use Rattle.view.specs.Layout.{one, shown, recordsShown}
@@ -10,11 +10,6 @@ use Rattle.view.proofs.Places.{one-small, count-here, count-nothing}
 use borrow.Author.Needs.{needs}
 use Rattle.view.proofs.records_shown.Statement.{statement}
 use Rattle.view.proofs.records_shown.Tie as tie
-use Rattle.view.proofs.records_shown.Reads as reads
-use Rattle.view.proofs.records_shown.Lts as lts
-use Rattle.store.proofs.load.Reads as load-reads
-use Rattle.view.proofs.one.Reads as one-reads
-use Rattle.view.proofs.shown.Reads as shown-reads
 
 abbrev Inv-loop : tie.InvT-loop
 Inv-loop reader store n₀ p₀ n p = (p ≤ 256) × (n ≤ p) × (n + recordsShown (reading reader) (drop p (slots store)) ≡ recordsShown (reading reader) (slots store))

@@ -1,12 +1,9 @@
 -- `view::shown` meets its contract. Assumes nothing.
-use mathlib.Core.Path.{_≡_, refl, sym, ap, ap₂, _∙_}
+use mathlib.Core.Path.{sym, _∙_}
 use Rattle.view.specs.Layout.{shown}
 use borrow.Author.Needs.{needs}
 use Rattle.view.proofs.shown.Statement.{statement}
 use Rattle.view.proofs.shown.Tie as tie
-use Rattle.view.proofs.shown.Reads as reads
-use Rattle.view.proofs.shown.Lts as lts
-use Rattle.labels.proofs.flows.Reads as flows-reads
 
 enum-told : tie.Need-enum-told
 enum-told c = search needs

@@ -1,14 +1,10 @@
 -- `view::view_length` meets its contract. Assumes nothing.
-use mathlib.Core.Path.{_≡_, refl, sym, ap, ap₂, _∙_}
-use native.Mathlib.Omega.{arith}
-use Prim.Native.Nat.{ℕ, _+_, _-_, _*_, _≤_, _<_}
+use mathlib.Core.Path.{ap}
+use Prim.Native.Nat.{ℕ, _+_, _-_, _*_}
 use Rattle.view.specs.Layout.{viewLength}
 use borrow.Author.Needs.{needs}
 use Rattle.view.proofs.view_length.Statement.{statement}
 use Rattle.view.proofs.view_length.Tie as tie
-use Rattle.view.proofs.view_length.Reads as reads
-use Rattle.view.proofs.view_length.Lts as lts
-use Rattle.view.proofs.records_shown.Reads as records-shown-reads
 
 records-shown-requires : tie.Need-records-shown-requires
 records-shown-requires c κs = search needs

@@ -3,10 +3,6 @@ use Rattle.view.specs.Layout.{contentsField}
 use borrow.Author.Needs.{needs}
 use Rattle.view.proofs.write_contents.Statement.{statement}
 use Rattle.view.proofs.write_contents.Tie as tie
-use Rattle.view.proofs.write_contents.Reads as reads
-use Rattle.view.proofs.write_contents.Lts as lts
-use Rattle.view.proofs.write_datum.Reads as write-datum-reads
-use Rattle.view.proofs.write_value.Reads as write-value-reads
 
 enum-known-contents : tie.Need-enum-known-contents
 enum-known-contents c = search needs

@@ -1,23 +1,15 @@
 -- `view::write_counts` meets its contract. Assumes nothing.
-use mathlib.Core.Path.{_≡_, refl, sym, ap, ap₂, _∙_}
-use mathlib.Core.List.{List, [], _∷_, _++_}
+use mathlib.Core.Path.{refl, sym, ap, ap₂, _∙_}
+use mathlib.Core.List.{List, _++_}
 use native.Mathlib.Omega.{arith}
-use Prim.Native.Nat.{ℕ, _+_, _-_, _*_, _≤_, _<_}
-use lib.ListN.{replicate}
-use Rattle.view.specs.Layout.{littleEndian, endingNumber, counts}
+use Prim.Native.Nat.{ℕ, _+_, _-_}
+use Rattle.view.specs.Layout.{littleEndian}
 use Rattle.view.specs.Writing.{over, closing, reads as reading}
 use Rattle.view.proofs.Buffers.{first, piece, last}
 use Rattle.view.proofs.Widths.{length-number, counts-shown, counts-hidden}
 use borrow.Author.Needs.{needs}
 use Rattle.view.proofs.write_counts.Statement.{statement}
 use Rattle.view.proofs.write_counts.Tie as tie
-use Rattle.view.proofs.write_counts.Reads as reads
-use Rattle.view.proofs.write_counts.Lts as lts
-use Rattle.labels.proofs.flows.Reads as flows-reads
-use Rattle.view.proofs.ending_number.Reads as ending-number-reads
-use Rattle.view.proofs.used.Reads as used-reads
-use Rattle.view.proofs.write_number.Reads as write-number-reads
-use Rattle.view.proofs.write_zeros.Reads as write-zeros-reads
 
 flows-requires : tie.Need-flows-requires
 flows-requires c κs = search needs

@@ -1,19 +1,15 @@
 -- `view::write_datum` meets its contract. Assumes nothing.
-use mathlib.Core.Path.{_≡_, refl, sym, ap, ap₂, _∙_}
-use mathlib.Core.List.{List, [], _∷_, _++_}
+use mathlib.Core.Path.{sym, ap, _∙_}
+use mathlib.Core.List.{List}
 use native.Mathlib.Omega.{arith}
-use Prim.Native.Nat.{ℕ, _+_, _-_, _*_, _≤_, _<_}
-use Rattle.view.specs.Layout.{kindByte, valueField, datumField}
+use Prim.Native.Nat.{ℕ, _+_, _-_}
+use Rattle.view.specs.Layout.{valueField, datumField}
 use Rattle.view.specs.Writing.{over}
 use denote.Ref.{now}
 use Rattle.view.proofs.Widths.{handle-field, kind-small}
 use borrow.Author.Needs.{needs}
 use Rattle.view.proofs.write_datum.Statement.{statement}
 use Rattle.view.proofs.write_datum.Tie as tie
-use Rattle.view.proofs.write_datum.Reads as reads
-use Rattle.view.proofs.write_datum.Lts as lts
-use Rattle.view.proofs.kind_byte.Reads as kind-byte-reads
-use Rattle.view.proofs.write_value.Reads as write-value-reads
 
 enum-known-d : tie.Need-enum-known-d
 enum-known-d c = search needs

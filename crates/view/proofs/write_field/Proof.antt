@@ -1,8 +1,8 @@
 -- `view::write_field` meets its contract. Assumes nothing.
-use mathlib.Core.Path.{_≡_, refl, sym, ap, ap₂, _∙_}
-use mathlib.Core.List.{List, [], _∷_, append-nil}
+use mathlib.Core.Path.{refl, sym}
+use mathlib.Core.List.{[], _∷_, append-nil}
 use native.Mathlib.Omega.{arith}
-use Prim.Native.Nat.{ℕ, _+_, _-_, _*_, _≤_, _<_}
+use Prim.Native.Nat.{_-_, _*_}
 use lib.ListN.{length, length-set}
 use Rattle.view.specs.Lines.{hex}
 use Rattle.view.proofs.Buffers.{start, byte, piece, last, room-for}
@@ -10,9 +10,6 @@ use Rattle.view.proofs.Printing.{length-hex}
 use borrow.Author.Needs.{needs}
 use Rattle.view.proofs.write_field.Statement.{statement}
 use Rattle.view.proofs.write_field.Tie as tie
-use Rattle.view.proofs.write_field.Reads as reads
-use Rattle.view.proofs.write_field.Lts as lts
-use Rattle.view.proofs.write_hex.Reads as write-hex-reads
 
 slice-write-out : tie.Need-slice-write-out
 slice-write-out c = search needs

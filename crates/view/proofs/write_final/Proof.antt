@@ -1,22 +1,15 @@
 -- `view::write_final` meets its contract. Assumes nothing.
-use mathlib.Core.Path.{_≡_, refl, sym, ap, ap₂, _∙_}
-use mathlib.Core.List.{List, [], _∷_, _++_}
+use mathlib.Core.Path.{refl, sym, ap, _∙_}
+use mathlib.Core.List.{List, _++_}
 use native.Mathlib.Omega.{arith}
-use Prim.Native.Nat.{ℕ, _+_, _-_, _*_, _≤_, _<_}
-use lib.ListN.{replicate}
-use Rattle.view.specs.Layout.{labelField, resultField, final}
+use Prim.Native.Nat.{ℕ, _+_, _-_}
+use Rattle.view.specs.Layout.{labelField, resultField}
 use Rattle.view.specs.Writing.{over, closing, reads as reading}
 use Rattle.view.proofs.Buffers.{first, piece, last}
 use Rattle.view.proofs.Widths.{length-label, length-result, final-shown, final-hidden}
 use borrow.Author.Needs.{needs}
 use Rattle.view.proofs.write_final.Statement.{statement}
 use Rattle.view.proofs.write_final.Tie as tie
-use Rattle.view.proofs.write_final.Reads as reads
-use Rattle.view.proofs.write_final.Lts as lts
-use Rattle.labels.proofs.flows.Reads as flows-reads
-use Rattle.view.proofs.write_label.Reads as write-label-reads
-use Rattle.view.proofs.write_result.Reads as write-result-reads
-use Rattle.view.proofs.write_zeros.Reads as write-zeros-reads
 
 flows-requires : tie.Need-flows-requires
 flows-requires c κs = search needs

@@ -1,19 +1,15 @@
 -- `view::write_hex` meets its contract. Assumes nothing.
 use mathlib.Core.Path.{_≡_, refl, sym, ap, ap₂, _∙_}
-use mathlib.Core.List.{List, [], _∷_, _++_}
+use mathlib.Core.List.{[], _∷_}
 use native.Mathlib.Omega.{arith}
-use Prim.Native.Nat.{ℕ, _+_, _-_, _*_, _≤_, _<_}
-use lib.ListN.{length, getD, drop, drop-of-length-le}
+use Prim.Native.Nat.{ℕ, _+_, _-_, _*_, _≤_}
+use lib.ListN.{length, drop, drop-of-length-le}
 use Rattle.view.specs.Lines.{hex}
 use Rattle.view.proofs.Buffers.{Writing, start, piece, ends, room-for}
 use Rattle.view.proofs.Printing.{hex-here}
 use borrow.Author.Needs.{needs}
 use Rattle.view.proofs.write_hex.Statement.{statement}
 use Rattle.view.proofs.write_hex.Tie as tie
-use Rattle.view.proofs.write_hex.Reads as reads
-use Rattle.view.proofs.write_hex.Lts as lts
-use Rattle.view.proofs.hex_digit.Reads as hex-digit-reads
-use Rattle.view.proofs.write_pair.Reads as write-pair-reads
 
 abbrev Inv-loop : tie.InvT-loop
 Inv-loop bytes out₀ at₀ i₀ out at i = (i ≤ length bytes) × (at ≡ 2 * i) × Writing (hex bytes) (hex (drop i bytes)) out₀ out at

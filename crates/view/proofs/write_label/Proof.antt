@@ -1,5 +1,5 @@
 -- `view::write_label` meets its contract. Assumes nothing.
-use mathlib.Core.Path.{_≡_, refl, sym, ap, ap₂, _∙_}
+use mathlib.Core.Path.{refl}
 use native.Mathlib.Omega.{arith}
 use Rattle.view.specs.Layout.{littleEndian, labelField}
 use Rattle.view.proofs.Buffers.{first, last}
@@ -7,9 +7,6 @@ use Rattle.view.proofs.Widths.{length-number}
 use borrow.Author.Needs.{needs}
 use Rattle.view.proofs.write_label.Statement.{statement}
 use Rattle.view.proofs.write_label.Tie as tie
-use Rattle.view.proofs.write_label.Reads as reads
-use Rattle.view.proofs.write_label.Lts as lts
-use Rattle.view.proofs.write_number.Reads as write-number-reads
 
 write-number-requires : tie.Need-write-number-requires
 write-number-requires c κs = search needs

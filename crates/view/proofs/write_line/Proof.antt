@@ -1,23 +1,16 @@
 -- `view::write_line` meets its contract. Assumes nothing.
-use mathlib.Core.Path.{_≡_, refl, sym, ap, ap₂, _∙_}
-use mathlib.Core.List.{List, [], _∷_, _++_}
+use mathlib.Core.Path.{refl, sym, ap, _∙_}
+use mathlib.Core.List.{[], _∷_, _++_}
 use native.Mathlib.Omega.{arith}
-use Prim.Native.Nat.{ℕ, _+_, _-_, _*_, _≤_, _<_}
-use lib.ListN.{length, take, drop, length-take, length-append}
+use Prim.Native.Nat.{_+_, _-_}
+use lib.ListN.{length, take, length-append}
 use lib.Seq.{length-take-le}
-use Rattle.view.specs.Lines.{hex, spaced, widths, line}
+use Rattle.view.specs.Lines.{hex, spaced, widths}
 use Rattle.view.proofs.Buffers.{part, next, byte, ends, ends-at, room-next, room-for-next}
 use Rattle.view.proofs.Printing.{behindFirst, first-field, length-hex, line-parts}
 use borrow.Author.Needs.{needs}
 use Rattle.view.proofs.write_line.Statement.{statement}
 use Rattle.view.proofs.write_line.Tie as tie
-use Rattle.view.proofs.write_line.Reads as reads
-use Rattle.view.proofs.write_line.Lts as lts
-use Rattle.view.proofs.cut.Reads as cut-reads
-use Rattle.view.proofs.number_at.Reads as number-at-reads
-use Rattle.view.proofs.write_fields.Reads as write-fields-reads
-use Rattle.view.proofs.write_hex.Reads as write-hex-reads
-use Rattle.view.proofs.write_record_fields.Reads as write-record-fields-reads
 
 cut-requires : tie.Need-cut-requires
 cut-requires c κs = search needs

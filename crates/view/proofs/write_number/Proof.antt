@@ -7,8 +7,6 @@ use Rattle.view.specs.Layout.{littleEndian}
 use Rattle.view.proofs.Buffers.{Writing, start, byte, ends}
 use Rattle.view.proofs.write_number.Statement.{statement}
 use Rattle.view.proofs.write_number.Tie as tie
-use Rattle.view.proofs.write_number.Reads as reads
-use Rattle.view.proofs.write_number.Lts as lts
 
 abbrev Inv-loop : tie.InvT-loop
 Inv-loop n width out₀ rest₀ i₀ out rest i = (i ≤ width) × Writing (littleEndian width n) (littleEndian (width - i) rest) out₀ out i
@@ -16,27 +14,21 @@ Inv-loop n width out₀ rest₀ i₀ out rest i = (i ≤ width) × Writing (litt
 abbrev μ-loop : tie.MeasureT-loop
 μ-loop n width out₀ rest₀ i₀ out rest i = width - i
 
--- src/lib.rt:62:5
 loop-holds : tie.Need-loop-holds Inv-loop μ-loop
 loop-holds c = (omega arith, start _ _ _ (ap (λ (k : ℕ). littleEndian k (c .args .n)) (let e : c .args .width - 0 ≡ c .args .width = omega arith in e)))
 
--- src/lib.rt:63:18
 cast-out : tie.Need-cast-out Inv-loop μ-loop
 cast-out c = omega arith
 
--- src/lib.rt:63:9
 slice-write-out : tie.Need-slice-write-out Inv-loop μ-loop
 slice-write-out c = omega (arith, c .before .loop .inv .1 .same)
 
--- src/lib.rt:65:9
 add-i : tie.Need-add-i Inv-loop μ-loop
 add-i c = search needs
 
--- src/lib.rt:62:5
 loop-less : tie.Need-loop-less Inv-loop μ-loop
 loop-less c = omega arith
 
--- src/lib.rt:62:5
 loop-again : tie.Need-loop-again Inv-loop μ-loop
 unfolding littleEndian
 loop-again c =
@@ -44,11 +36,9 @@ loop-again c =
     let w = c .before .before .args .width in
     (omega arith, byte (l .inv .1) _ _ (ap (λ (k : ℕ). littleEndian k (l .rest)) (let e : w - l .i ≡ suc (w - (l .i + 1)) = omega arith in e)) (omega (arith, l .inv .1 .same)))
 
--- src/lib.rt:56:1
 same-length : tie.Need-same-length Inv-loop μ-loop
 same-length c = c .before .loop .inv .1 .same
 
--- src/lib.rt:56:1
 returns : tie.Need-returns Inv-loop μ-loop
 unfolding littleEndian
 returns c =

@@ -1,14 +1,12 @@
 -- `view::write_pair` meets its contract. Assumes nothing.
-use mathlib.Core.Path.{_≡_, refl, sym, ap, ap₂, _∙_}
-use mathlib.Core.List.{List, [], _∷_, _++_}
+use mathlib.Core.Path.{refl}
+use mathlib.Core.List.{[], _∷_}
 use native.Mathlib.Omega.{arith}
 use lib.ListN.{length-set}
 use Rattle.view.proofs.Buffers.{start, byte, ends}
 use borrow.Author.Needs.{needs}
 use Rattle.view.proofs.write_pair.Statement.{statement}
 use Rattle.view.proofs.write_pair.Tie as tie
-use Rattle.view.proofs.write_pair.Reads as reads
-use Rattle.view.proofs.write_pair.Lts as lts
 
 slice-write-out : tie.Need-slice-write-out
 slice-write-out c = search needs

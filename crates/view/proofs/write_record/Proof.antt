@@ -1,20 +1,14 @@
 -- `view::write_record` meets its contract. Assumes nothing.
-use mathlib.Core.Path.{_≡_, refl, sym, ap, ap₂, _∙_}
-use mathlib.Core.List.{List, [], _∷_, _++_}
+use mathlib.Core.Path.{refl, sym, ap}
+use mathlib.Core.List.{[], _∷_, _++_}
 use native.Mathlib.Omega.{arith}
-use Prim.Native.Nat.{ℕ, _+_, _-_, _*_, _≤_, _<_}
-use Rattle.view.specs.Layout.{labelField, contentsField, kindByte, recordField}
+use Prim.Native.Nat.{ℕ, _+_, _-_}
+use Rattle.view.specs.Layout.{labelField, contentsField, recordField}
 use Rattle.view.proofs.Buffers.{first, piece, last}
 use Rattle.view.proofs.Widths.{length-label, length-contents}
 use borrow.Author.Needs.{needs}
 use Rattle.view.proofs.write_record.Statement.{statement}
 use Rattle.view.proofs.write_record.Tie as tie
-use Rattle.view.proofs.write_record.Reads as reads
-use Rattle.view.proofs.write_record.Lts as lts
-use Rattle.view.proofs.kind_byte.Reads as kind-byte-reads
-use Rattle.view.proofs.write_contents.Reads as write-contents-reads
-use Rattle.view.proofs.write_label.Reads as write-label-reads
-use Rattle.view.proofs.write_pair.Reads as write-pair-reads
 
 kind-byte-requires : tie.Need-kind-byte-requires
 kind-byte-requires c κs = search needs

@@ -1,24 +1,17 @@
 -- `view::write_records` meets its contract. Assumes nothing.
-use mathlib.Core.Path.{_≡_, refl, sym, ap, ap₂, _∙_}
+use mathlib.Core.Path.{sym, ap, _∙_}
 use mathlib.Core.List.{List}
 use mathlib.Core.Logic.{⊎-elim}
 use mathlib.Core.Path.{subst₂}
 use Rattle.view.specs.Layout.{shown}
 use native.Mathlib.Omega.{arith}
-use Prim.Native.Nat.{ℕ, _+_, _-_, _*_, _≤_, _<_}
-use lib.ListN.{length, drop}
-use Rattle.store.specs.Slots.{slots}
+use Prim.Native.Nat.{ℕ, _+_, _-_, _<_}
 use Rattle.view.specs.Writing.{reads as reading}
 use Rattle.view.proofs.Buffers.{room-for}
 use Rattle.view.proofs.Places.{Written, none-yet, all-written, room-here, written-here, hidden-here}
 use borrow.Author.Needs.{needs}
 use Rattle.view.proofs.write_records.Statement.{statement}
 use Rattle.view.proofs.write_records.Tie as tie
-use Rattle.view.proofs.write_records.Reads as reads
-use Rattle.view.proofs.write_records.Lts as lts
-use Rattle.store.proofs.load.Reads as load-reads
-use Rattle.view.proofs.shown.Reads as shown-reads
-use Rattle.view.proofs.write_record.Reads as write-record-reads
 
 abbrev Inv-loop : tie.InvT-loop
 Inv-loop reader store out₀ at₀ p₀ out at p = Written (reading reader) store out₀ out at p

@@ -1,17 +1,13 @@
 -- `view::write_refused` meets its contract. Assumes nothing.
-use mathlib.Core.Path.{_≡_, refl, sym, ap, ap₂, _∙_}
-use mathlib.Core.List.{List, [], _∷_, _++_}
+use mathlib.Core.Path.{refl}
+use mathlib.Core.List.{[], _∷_}
 use native.Mathlib.Omega.{arith}
-use Prim.Native.Nat.{ℕ, _+_, _-_, _*_, _≤_, _<_}
+use Prim.Native.Nat.{_+_, _-_}
 use Rattle.view.specs.Lines.{refusedLine}
 use Rattle.view.proofs.Buffers.{first, last}
 use borrow.Author.Needs.{needs}
 use Rattle.view.proofs.write_refused.Statement.{statement}
 use Rattle.view.proofs.write_refused.Tie as tie
-use Rattle.view.proofs.write_refused.Reads as reads
-use Rattle.view.proofs.write_refused.Lts as lts
-use Rattle.view.proofs.write_bytes.Reads as write-bytes-reads
-use Rattle.view.proofs.write_pair.Reads as write-pair-reads
 
 slice-aggregate-write-bytes : tie.Need-slice-aggregate-write-bytes
 slice-aggregate-write-bytes c = search needs

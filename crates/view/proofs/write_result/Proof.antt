@@ -3,10 +3,6 @@ use Rattle.view.specs.Layout.{resultField}
 use borrow.Author.Needs.{needs}
 use Rattle.view.proofs.write_result.Statement.{statement}
 use Rattle.view.proofs.write_result.Tie as tie
-use Rattle.view.proofs.write_result.Reads as reads
-use Rattle.view.proofs.write_result.Lts as lts
-use Rattle.view.proofs.write_datum.Reads as write-datum-reads
-use Rattle.view.proofs.write_value.Reads as write-value-reads
 
 enum-known-ending : tie.Need-enum-known-ending
 enum-known-ending c = search needs

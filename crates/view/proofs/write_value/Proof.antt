@@ -1,6 +1,6 @@
 -- `view::write_value` meets its contract. Assumes nothing.
-use mathlib.Core.Path.{_≡_, refl, sym, ap, ap₂, _∙_}
-use mathlib.Core.List.{List, [], _∷_, _++_}
+use mathlib.Core.Path.{refl}
+use mathlib.Core.List.{[], _∷_, _++_}
 use native.Mathlib.Omega.{arith}
 use Rattle.view.specs.Layout.{littleEndian, valueField}
 use Rattle.view.proofs.Buffers.{first, piece, last}
@@ -8,10 +8,6 @@ use Rattle.view.proofs.Widths.{length-number}
 use borrow.Author.Needs.{needs}
 use Rattle.view.proofs.write_value.Statement.{statement}
 use Rattle.view.proofs.write_value.Tie as tie
-use Rattle.view.proofs.write_value.Reads as reads
-use Rattle.view.proofs.write_value.Lts as lts
-use Rattle.view.proofs.write_number.Reads as write-number-reads
-use Rattle.view.proofs.write_pair.Reads as write-pair-reads
 
 write-pair-requires : tie.Need-write-pair-requires
 write-pair-requires c κs = search needs

@@ -1,8 +1,8 @@
 -- `view::write_view` meets its contract. Assumes nothing.
-use mathlib.Core.Path.{_≡_, refl, sym, ap, ap₂, _∙_}
-use mathlib.Core.List.{List, [], _∷_, _++_}
+use mathlib.Core.Path.{_≡_, refl, sym, ap}
+use mathlib.Core.List.{_++_}
 use native.Mathlib.Omega.{arith}
-use Prim.Native.Nat.{ℕ, _+_, _-_, _*_, _≤_, _<_}
+use Prim.Native.Nat.{ℕ, _+_, _-_, _*_, _≤_}
 use lib.ListN.{length}
 use Rattle.store.specs.Slots.{slots}
 use Rattle.view.specs.Layout.{littleEndian, recordFields, recordsShown, counts, final, viewLength, view}
@@ -12,13 +12,6 @@ use Rattle.view.proofs.Widths.{length-number, length-counts, length-fin
 use borrow.Author.Needs.{needs}
 use Rattle.view.proofs.write_view.Statement.{statement}
 use Rattle.view.proofs.write_view.Tie as tie
-use Rattle.view.proofs.write_view.Reads as reads
-use Rattle.view.proofs.write_view.Lts as lts
-use Rattle.view.proofs.records_shown.Reads as records-shown-reads
-use Rattle.view.proofs.write_counts.Reads as write-counts-reads
-use Rattle.view.proofs.write_final.Reads as write-final-reads
-use Rattle.view.proofs.write_number.Reads as write-number-reads
-use Rattle.view.proofs.write_records.Reads as write-records-reads
 
 records-shown-requires : tie.Need-records-shown-requires
 records-shown-requires c κs = search needs

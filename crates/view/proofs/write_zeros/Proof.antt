@@ -7,8 +7,6 @@ use borrow.Author.Needs.{needs}
 use Rattle.view.proofs.Buffers.{Writing, start, byte, ends}
 use Rattle.view.proofs.write_zeros.Statement.{statement}
 use Rattle.view.proofs.write_zeros.Tie as tie
-use Rattle.view.proofs.write_zeros.Reads as reads
-use Rattle.view.proofs.write_zeros.Lts as lts
 
 abbrev Inv-loop : tie.InvT-loop
 Inv-loop count out₀ i₀ out i = (i ≤ count) × Writing (replicate count 0) (replicate (count - i) 0) out₀ out i
@@ -16,34 +14,27 @@ Inv-loop count out₀ i₀ out i = (i ≤ count) × Writing (replicate count 0) 
 abbrev μ-loop : tie.MeasureT-loop
 μ-loop count out₀ i₀ out i = count - i
 
--- src/lib.rt:74:5
 loop-holds : tie.Need-loop-holds Inv-loop μ-loop
 loop-holds c = (omega arith, start _ _ _ (ap (λ (k : ℕ). replicate k 0) (let e : c .args .count - 0 ≡ c .args .count = omega arith in e)))
 
--- src/lib.rt:75:9
 slice-write-out : tie.Need-slice-write-out Inv-loop μ-loop
 slice-write-out c = omega (arith, c .before .loop .inv .1 .same)
 
--- src/lib.rt:76:9
 add-i : tie.Need-add-i Inv-loop μ-loop
 add-i c = search needs
 
--- src/lib.rt:74:5
 loop-less : tie.Need-loop-less Inv-loop μ-loop
 loop-less c = omega arith
 
--- src/lib.rt:74:5
 loop-again : tie.Need-loop-again Inv-loop μ-loop
 loop-again c =
     let l = c .before .loop in
     let n = c .before .before .args .count in
     (omega arith, byte (l .inv .1) _ _ (ap (λ (k : ℕ). replicate k 0) (let e : n - l .i ≡ suc (n - (l .i + 1)) = omega arith in e)) (omega (arith, l .inv .1 .same)))
 
--- src/lib.rt:69:1
 same-length : tie.Need-same-length Inv-loop μ-loop
 same-length c = c .before .loop .inv .1 .same
 
--- src/lib.rt:69:1
 returns : tie.Need-returns Inv-loop μ-loop
 returns c =
     let l = c .before .loop in
