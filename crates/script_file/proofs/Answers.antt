@@ -1,10 +1,10 @@
 -- The answer and its number.
-use mathlib.Core.Bool.{Bool, true, false, cond}
+use mathlib.Core.Bool.{Bool, true, false}
 use mathlib.Core.List.{List, [], _∷_}
 use mathlib.Core.Path.{_≡_, refl, ap, sym, _∙_}
-use Prim.Native.Nat.{ℕ, zero, suc}
+use Prim.Native.Nat.{ℕ, suc}
 use native.Mathlib.Omega.{arith}
-use lib.Dec.{eqb, eqb·suc-zero}
+use lib.Dec.{eqb·suc-zero}
 use lib.ListN.{length, getD}
 use Rattle.script_file.specs.Sections.{header, fileLabels, orNone}
 use Rattle.script_file.specs.Checks.{passes1, passes2, passes3, passes4, passes5, passes6, passes7, lowest, refusal}
@@ -12,7 +12,6 @@ use Rattle.script_file.specs.Loading.{number, numberOf, refusals, answer
 use Rattle.script_file.specs.declared.Header.{Header}
 use Rattle.script_file.specs.declared.Refusal.{Refusal}
 use Rattle.script_file.specs.declared.Refusal.the-variants.{Code}
-use Rattle.script_file.specs.declared.Loaded.{Loaded}
 use Rattle.script_file.specs.declared.Loaded.the-variants.{Refused, File}
 use Rattle.script_file.proofs.Limits.{Counted, counted, Placed, placed}
 

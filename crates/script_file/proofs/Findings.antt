@@ -7,7 +7,6 @@ use native.Mathlib.Omega.{arith}
 use lib.ListN.{length, take, drop}
 use borrow.Rule.Slice.PartAt.{part-to-end}
 use Rattle.labels.specs.Order.{flows}
-use Rattle.labels.specs.declared.Label.{Label}
 use Rattle.script_file.specs.Sections.{header, labelBytes, recordBytes, codeBytes, readLabels, fileLabels, labelAt, orNone}
 use Rattle.script_file.specs.Sweep.{codeOk}
 use Rattle.script_file.specs.Checks.{sizeOk, countsOk, offsetsOk, recordsOk, passes1, passes2, passes3, passes4, passes5, passes6, passes7, refusal}

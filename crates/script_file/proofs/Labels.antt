@@ -13,8 +13,7 @@ use Rattle.labels.specs.declared.Label.{Label}
 use Rattle.labels.specs.declared.Entry.{Entry}
 use Rattle.labels.specs.declared.Entry.the-variants.{Read, Malformed}
 use Rattle.labels.proofs.Reading.{well-formed, found}
-use Rattle.script_file.specs.Sections.{consLabel, labelsAfter, readLabels, noneLeft, orNone}
-use Rattle.script_file.specs.Checks.{present}
+use Rattle.script_file.specs.Sections.{consLabel, labelsAfter, readLabels, orNone}
 use Rattle.script_file.specs.Loading.{tables, padded, labelWords}
 use Rattle.script_file.specs.Parts.{tableOf, labelIn}
 use Rattle.script_file.specs.declared.Table.{Table}
