@@ -1,0 +1,20 @@
+use borrow.Author.Needs.{needs}
+use Rattle.machine.proofs.State.live.Statement.{statement}
+use Rattle.machine.proofs.State.live.Tie as tie
+use Rattle.machine.proofs.State.live.Reads as reads
+use Rattle.machine.proofs.State.live.Lts as lts
+
+enum-told : tie.Need-enum-told
+enum-told c = search needs
+
+enum-told-2 : tie.Need-enum-told-2
+enum-told-2 c = search needs
+
+returns : tie.Need-returns
+returns c = rw (c .enum-told .given .1)
+
+returns-2 : tie.Need-returns-2
+returns-2 c = rw (c .enum-told2 .given .1)
+
+pub live-spec : {M : Type 1} → statement M
+live-spec = tie.close (tie.spec enum-told enum-told-2 returns returns-2)

@@ -1,0 +1,427 @@
+// The run state, and the interpreter.
+use effects::Account;
+use effects::Effect;
+use effects::Entry;
+use labels::Label;
+use model::Datum;
+use model::Ending;
+use model::Frame;
+use model::Kind;
+use model::Record;
+use model::Value;
+use operands::Operands;
+ghost use mathlib.Core.Path.{_≡_};
+ghost use Prim.Native.Nat.{_+_, _-_, _*_, _^_, _≤_, _<_, min};
+ghost use lib.ListN.{length};
+ghost use Rattle.model.specs.State.{number};
+ghost use Rattle.model.specs.Decoding.{byte};
+ghost use Rattle.model.specs.Effects.{fail};
+ghost use Rattle.model.specs.Running.{runs, startControl, startAccount};
+ghost use Rattle.operands.specs.Program.{program, count};
+ghost use Rattle.store.specs.Slots.{words, slots};
+ghost use Rattle.effects.specs.Bridge.{settle};
+ghost use Rattle.machine.specs.State.{Ok, Live, Does, Ran, control, account, endingOf, outcomeOf, isLive, presentOf, popped, pushed, raised, lowered, charged, taken, jumped, kept, framed, unframed, ended, bodied};
+ghost use Rattle.machine.specs.Fits.{FitsEffect};
+ghost use Rattle.machine.specs.Steps.{Sizes, Started, stepOf, runOf};
+
+pub enum Status {
+    Running,
+    Ended(Ending),
+}
+
+pub struct Progress {
+    pub status: Status,
+}
+
+pub struct State {
+    pub stack: [Value; 32],
+    pub top: usize,
+    pub locals: [Value; 16],
+    pub frames: [Frame; 8],
+    pub newest: usize,
+    pub label: Label,
+    pub clearance: Label,
+    pub steps: usize,
+    pub next: usize,
+    pub limit: usize,
+    pub depth: usize,
+    pub pc: usize,
+    pub progress: Progress,
+}
+
+const BLOCK: u8 = 25;
+
+fn number(n: u32) -> Value
+    ensures { λ r. ⌜ r ≡ number n ⌝ }
+{
+    Value {
+        datum: Datum::Number(n),
+    }
+}
+
+fn least(a: usize, b: usize) -> usize
+    ensures { λ r. ⌜ r ≡ min a b ⌝ }
+{
+    if a < b {
+        return a;
+    }
+    b
+}
+
+fn present(i: usize, n: usize, v: Value) -> Datum
+    ensures { λ r. ⌜ r ≡ presentOf i n v ⌝ }
+{
+    if i < n {
+        return v.datum;
+    }
+    Datum::Number(0)
+}
+
+pub fn ending(p: Progress) -> Ending
+    ensures { λ r. ⌜ r ≡ endingOf (p .status) ⌝ }
+{
+    let s = p.status;
+    match s {
+        Status::Running => Ending::Spent,
+        Status::Ended(e) => e,
+    }
+}
+
+impl State {
+    pub fn pop(mut self, k: usize) -> State
+        requires { ⌜ self .top + k ≤ 32 ⌝ }
+        ensures { λ r. ⌜ r ≡ popped k self ⌝ }
+    {
+        let top = self.top;
+        self.top = top + k;
+        self
+    }
+
+    pub fn push(mut self, v: Value) -> State
+        requires { ⌜ (0 < self .top) × (self .top ≤ 32) ⌝ }
+        ensures { λ r. ⌜ r ≡ pushed v self ⌝ }
+    {
+        let top = self.top - 1;
+        self.stack[top] = v;
+        self.top = top;
+        self
+    }
+
+    pub fn raise(mut self, l: Label) -> State
+        ensures { λ r. ⌜ r ≡ raised l self ⌝ }
+    {
+        let label = self.label;
+        let raised = labels::join(label, l);
+        self.label = raised;
+        self
+    }
+
+    pub fn lower(mut self, l: Label) -> State
+        ensures { λ r. ⌜ r ≡ lowered l self ⌝ }
+    {
+        self.clearance = l;
+        self
+    }
+
+    pub fn charge(mut self, n: usize) -> State
+        requires { ⌜ n ≤ self .steps ⌝ }
+        ensures { λ r. ⌜ r ≡ charged n self ⌝ }
+    {
+        let left = self.steps;
+        self.steps = left - n;
+        self
+    }
+
+    fn take(mut self, n: usize) -> State
+        requires { ⌜ self .next + n < 2 ^ 32 ⌝ }
+        ensures { λ r. ⌜ r ≡ taken n self ⌝ }
+    {
+        let p = self.next;
+        self.next = p + n;
+        self
+    }
+
+    fn jump(mut self, t: usize) -> State
+        ensures { λ r. ⌜ r ≡ jumped t self ⌝ }
+    {
+        self.pc = t;
+        self
+    }
+
+    fn set(mut self, i: usize, v: Value) -> State
+        requires { ⌜ length (self .locals) ≡ 16 ⌝ }
+        ensures { λ r. ⌜ r ≡ kept i v self ⌝ }
+    {
+        if i < 16 {
+            self.locals[i] = v;
+        }
+        self
+    }
+
+    fn enter_try(mut self, h: usize) -> State
+        requires { ⌜ (0 < self .newest) × (self .newest ≤ 8) × (self .top ≤ 32) ⌝ }
+        ensures { λ r. ⌜ r ≡ framed h self ⌝ }
+    {
+        let newest = self.newest - 1;
+        let height = 32 - self.top;
+        self.frames[newest] = Frame { handler: h, height };
+        self.newest = newest;
+        self
+    }
+
+    fn leave_try(mut self) -> State
+        requires { ⌜ self .newest < 8 ⌝ }
+        ensures { λ r. ⌜ r ≡ unframed self ⌝ }
+    {
+        let newest = self.newest;
+        self.newest = newest + 1;
+        self
+    }
+
+    fn end(mut self, e: Ending) -> State
+        ensures { λ r. ⌜ r ≡ ended e self ⌝ }
+    {
+        let p = Progress {
+            status: Status::Ended(e),
+        };
+        self.progress = p;
+        self
+    }
+
+    fn live(self) -> bool
+        ensures { λ r. ⌜ r ≡ isLive (self .progress .status) ⌝ }
+    {
+        let p = self.progress;
+        let s = p.status;
+        match s {
+            Status::Running => true,
+            Status::Ended(_) => false,
+        }
+    }
+
+    fn fail(mut self, code: u32, number: u32) -> State
+        requires { ⌜ Ok self × Live self ⌝ }
+        ensures { λ r. ⌜ Does r (fail code number (control self) (account self)) ⌝ }
+    {
+        let newest = self.newest;
+        if newest == 8 {
+            return self.end(Ending::Fault(code, number));
+        }
+        let f = self.frames[newest];
+        let height = least(32 - self.top, f.height);
+        self.newest = newest + 1;
+        self.pc = f.handler;
+        self.top = 32 - height;
+        let s = self.push(crate::number(code));
+        s.push(crate::number(number))
+    }
+
+    fn body(mut self, t: usize, n: usize, k: usize) -> State
+        requires { ⌜ (self .next + 1 + k < 2 ^ 32) × (self .depth < 8) ⌝ }
+        ensures { λ r. ⌜ r ≡ bodied t n k self ⌝ }
+    {
+        let p = self.next;
+        let depth = self.depth;
+        self.top = 32;
+        self.newest = 8;
+        self.pc = t;
+        self.steps = n;
+        self.next = p + 1;
+        self.limit = p + 1 + k;
+        self.depth = depth + 1;
+        self
+    }
+
+    // Takes an effect over, k operands being the instruction's. A fault leaves them in place.
+    fn settle(mut self, k: usize, e: Effect) -> State
+        requires { ⌜ Ok self × Live self × FitsEffect (self .top) (self .newest) (self .next) (self .limit) k e ⌝ }
+        ensures { λ r. ⌜ Does r (λ σ. settle k (control self) (account self) σ e) ⌝ }
+    {
+        match e {
+            Effect::Fault(code, n) => self.fail(code, n),
+            Effect::Throw(l, code, n) => self.raise(l).fail(code, n),
+            Effect::Drop => self.pop(k),
+            Effect::Push(d) => self.pop(k).push(Value { datum: d }),
+            Effect::Get(i) => {
+                let at = least(i, 15);
+                let v = self.locals[at];
+                let d = present(i, 16, v);
+                self.pop(k).push(Value { datum: d })
+            }
+            Effect::Set(i, d) => self.pop(k).set(i, Value { datum: d }),
+            Effect::Jump(t) => self.pop(k).jump(t),
+            Effect::Try(h) => self.pop(k).enter_try(h),
+            Effect::Done => self.pop(k).leave_try(),
+            Effect::End(d) => self.pop(k).end(Ending::Result(d)),
+            Effect::Raise(l) => self.pop(k).raise(l),
+            Effect::Lower(l) => self.pop(k).lower(l),
+            Effect::Make(d) => self.take(1).pop(k).push(Value { datum: d }),
+            Effect::Open(l, d) => self.raise(l).pop(k).push(Value { datum: d }),
+        }
+    }
+
+    // Any instruction but BLOCK.
+    fn plain(mut self, code: &[u8], labels: &[u64], records: &[u8], store: &mut [u64]) -> State
+        requires { ⌜ Ok self × Live self × Sizes (now code) (now labels) (now store) × (byte (now code) (self .pc) ≡ 25 → ⊥) ⌝ }
+        ensures { λ r. ⌜ Ran r (slots (now (store .exit))) (stepOf (now (code .entry)) (now (labels .entry)) (now (records .entry)) self (slots (now (store .entry)))) ⌝ }
+    {
+        let pc = self.pc;
+        let d = decode::decode(code, pc);
+        let i = d.instr;
+        let after = d.after;
+        self = self.jump(after);
+        let a = decode::arity(i);
+        let top = self.top;
+        let under = top + 1;
+        let first = least(top, 31);
+        let second = least(under, 31);
+        let y = self.stack[first];
+        let x = self.stack[second];
+        let label = self.label;
+        let clearance = self.clearance;
+        let o = Operands {
+            height: 32 - top,
+            top: present(top, 32, y),
+            second: present(under, 32, x),
+            frames: 8 - self.newest,
+            label,
+            clearance,
+        };
+        let p = operands::plan_of(i, a, o, labels, records);
+        let lent = Account {
+            label,
+            clearance,
+            steps: self.steps,
+            next: self.next,
+            limit: self.limit,
+            depth: self.depth,
+        };
+        let e = effects::effect_of(p, lent, store);
+        let k = a.takes;
+        self.settle(k, e)
+    }
+
+    // BLOCK.
+    fn block(mut self, code: &[u8], labels: &[u64], records: &[u8], store: &mut [u64]) -> State
+        requires { ⌜ Ok self × Live self × Sizes (now code) (now labels) (now store) × (byte (now code) (self .pc) ≡ 25) ⌝ }
+        ensures { λ r. ⌜ Ran r (slots (now (store .exit))) (stepOf (now (code .entry)) (now (labels .entry)) (now (records .entry)) self (slots (now (store .entry)))) ⌝ }
+    {
+        let pc = self.pc;
+        let t = decode::u16_at(code, pc + 1) as usize;
+        let n = decode::u16_at(code, pc + 3) as usize;
+        let k = decode::byte_at(code, pc + 5) as usize;
+        self = self.jump(pc + 6);
+        let top = self.top;
+        let first = least(top, 31);
+        let y = self.stack[first];
+        let d = present(top, 32, y);
+        let label = self.label;
+        let clearance = self.clearance;
+        let p = self.next;
+        let lent = Account {
+            label,
+            clearance,
+            steps: self.steps,
+            next: p,
+            limit: self.limit,
+            depth: self.depth,
+        };
+        let e = effects::enter(lent, 32 - top, d, n, k);
+        match e {
+            Entry::Fault(code) => self.fail(code, 0),
+            Entry::Body(b) => {
+                let fin = self.body(t, n, k).run(code, labels, records, store);
+                let progress = fin.progress;
+                let l = fin.label;
+                let contents = effects::outcome(l, ending(progress), b);
+                store::save(
+                    store,
+                    p,
+                    Record {
+                        kind: Kind::Sealed,
+                        label: b,
+                        contents,
+                    },
+                );
+                self.charge(n).take(1 + k).pop(1).push(Value {
+                    datum: Datum::Handle(Kind::Sealed, p),
+                })
+            }
+        }
+    }
+
+    // One instruction, its step paid.
+    pub fn step(mut self, code: &[u8], labels: &[u64], records: &[u8], store: &mut [u64]) -> State
+        requires { ⌜ Ok self × Live self × Sizes (now code) (now labels) (now store) ⌝ }
+        ensures { λ r. ⌜ Ran r (slots (now (store .exit))) (stepOf (now (code .entry)) (now (labels .entry)) (now (records .entry)) self (slots (now (store .entry)))) ⌝ }
+    {
+        let pc = self.pc;
+        if decode::byte_at(code, pc) == BLOCK {
+            return self.block(code, labels, records, store);
+        }
+        self.plain(code, labels, records, store)
+    }
+
+    pub fn run(mut self, code: &[u8], labels: &[u64], records: &[u8], store: &mut [u64]) -> State
+        requires { ⌜ Ok self × Live self × Sizes (now code) (now labels) (now store) ⌝ }
+        ensures { λ r. ⌜ outcomeOf r (slots (now (store .exit))) ≡ runOf (now (code .entry)) (now (labels .entry)) (now (records .entry)) self (slots (now (store .entry))) ⌝ }
+    {
+        while self.live() {
+            if self.steps == 0 {
+                return self.end(Ending::Spent);
+            }
+            self = self.charge(1);
+            self = self.step(code, labels, records, store);
+        }
+        self
+    }
+}
+
+pub fn start(label: Label, clearance: Label, steps: usize, next: usize, limit: usize) -> State
+    requires { ⌜ (next ≤ limit) × (limit ≤ 256) ⌝ }
+    ensures { λ r. ⌜ Started r label clearance steps next limit ⌝ }
+{
+    State {
+        stack: [Value {
+            datum: Datum::Number(0),
+        }; 32],
+        top: 32,
+        locals: [Value {
+            datum: Datum::Number(0),
+        }; 16],
+        frames: [Frame {
+            handler: 0,
+            height: 0,
+        }; 8],
+        newest: 8,
+        label,
+        clearance,
+        steps,
+        next,
+        limit,
+        depth: 0,
+        pc: 0,
+        progress: Progress {
+            status: Status::Running,
+        },
+    }
+}
+
+// Runs a loaded file: its code, its labels, and its input records, which have their places in the store already.
+pub fn execute(
+    code: &[u8],
+    labels: &[u64],
+    records: &[u8],
+    label: Label,
+    clearance: Label,
+    steps: usize,
+    places: usize,
+    store: &mut [u64],
+) -> State
+    requires { ⌜ Sizes (now code) (now labels) (now store) × (count (now records) ≤ places) × (places ≤ 256) ⌝ }
+    ensures { λ r. ⌜ outcomeOf r (slots (now (store .exit))) ≡ runs (program (now (code .entry)) (now (labels .entry)) (now (records .entry))) startControl (startAccount label clearance steps (count (now (records .entry))) places) (slots (now (store .entry))) ⌝ }
+{
+    let next = records.len() / 6;
+    let s = start(label, clearance, steps, next, places);
+    s.run(code, labels, records, store)
+}

@@ -1,0 +1,155 @@
+-- The parts of a read put together: each lemma is what one return of the code promises.
+use mathlib.Core.Bool.{Bool, true, false}
+use mathlib.Core.List.{List, [], _∷_}
+use mathlib.Core.Path.{_≡_, refl, sym, ap, _∙_}
+use Prim.Native.Nat.{ℕ, zero, suc, _+_, _-_, _*_, _^_, _≤_, _<_}
+use native.Mathlib.Omega.{arith}
+use borrow.Author.Tests.{lt-ltb, le-ltb, lt-leb, le-leb}
+use lib.Dec.{leb, ltb, eqb}
+use lib.ListN.{length, take, drop, replicate}
+use Rattle.labels.specs.declared.Label.{Label}
+use Rattle.model.specs.State.{Store, Outcome, Account, Program}
+use Rattle.model.specs.Inputs.{inputs, inputSlots}
+use Rattle.model.specs.Running.{runs, startControl, startAccount, startStore}
+use Rattle.model.specs.declared.Slot.the-variants.{Empty}
+use Rattle.machine.specs.State.{outcomeOf, endingOf}
+use Rattle.machine.specs.declared.State.{State}
+use Rattle.operands.specs.Program.{labelAt as labelIn, count, program}
+use Rattle.store.specs.Chunks.{parts}
+use Rattle.store.specs.Slots.{slots}
+use Rattle.script_file.specs.Sections.{header, recordBytes, codeBytes, fileLabels, orNone, labelAt}
+use Rattle.script_file.specs.Checks.{refusal}
+use Rattle.model.proofs.Tests.{cond-one}
+use Rattle.script_file.specs.Loading.{number, loaded, padded, tables, labelWords, wordsAfter}
+use Rattle.script_file.specs.Program.{fileInputs, fileAccount, fileProgram, fileRun}
+use Rattle.script_file.specs.declared.Header.{Header}
+use Rattle.script_file.specs.declared.Refusal.{Refusal}
+use Rattle.script_file.specs.declared.Refusal.the-variants.{Size, Counts, Offsets, Labels, Start, Records, Code}
+use Rattle.script_file.specs.declared.Loaded.the-variants.{Refused as Stopped, File}
+use Rattle.script_file.proofs.Answers.{refused-number, file-number, file-header, loads, within-limits, in-place}
+use Rattle.view.specs.Layout.{viewLength, view}
+use Rattle.view.specs.Reading.{Reading, refuse, show, reading, fileView, viewed}
+use Rattle.view.specs.Writing.{over, reads as readerOf, finished}
+use Rattle.view.specs.declared.Finish.{Finish}
+use Rattle.view.proofs.Widths.{length-view, view-finished}
+use Rattle.monitor.specs.Answers.{answerOf, reads, codeOf, Loads, Leaves, Finishes}
+use Rattle.monitor.specs.declared.Answer.{Answer}
+use Rattle.monitor.specs.Placing.{noRecords}
+use Rattle.monitor.proofs.Parts.{labels-are, records-are, records-length, records-counted, code-is, code-length, program-is, inputs-allowed, places-allowed}
+
+-- ── the view and the buffer ──
+
+pub show-short : (v b : List ℕ) → length b < length v → refuse 9 b ≡ show v b
+show-short v b h = rw (lt-leb (length v) (length b) h)
+
+pub show-whole : (v b out : List ℕ) (n : ℕ) → length v ≤ length b → n ≡ length v → out ≡ over v b → record { answer = viewed n; buffer = out } ≡ show v b
+unfolding over
+show-whole v b out n h e f = rw (e, f, le-leb (length v) (length b) h)
+
+-- ── the run ──
+
+-- the parts that the code takes of a file
+abbrev pub recordsIn : Header → List ℕ → List ℕ
+recordsIn h bs = take (h .code .offset - h .records .offset) (drop (h .records .offset) bs)
+
+abbrev pub codeIn : Header → List ℕ → List ℕ
+codeIn h bs = take (length bs - h .code .offset) (drop (h .code .offset) bs)
+
+module _ (bs : List ℕ) (h : Header) (ws : List ℕ) (w : Loads bs h ws) where
+  records-in : recordsIn h bs ≡ recordBytes bs
+  records-in = ap (λ (g : Header). recordsIn g bs) (w .numbers) ∙ records-are bs (w .none)
+
+  code-in : codeIn h bs ≡ codeBytes bs
+  code-in = ap (λ (g : Header). codeIn g bs) (w .numbers) ∙ code-is bs (w .none)
+
+  pub records-first : h .records .offset ≤ h .code .offset
+  records-first = rw (w .numbers) (let p = in-place bs (w .none) .code in omega arith)
+
+  pub code-within : h .code .offset ≤ length bs
+  code-within = rw (w .numbers) (let p = in-place bs (w .none) .whole in omega arith)
+
+  pub records-short : length (recordsIn h bs) ≤ 384
+  records-short = rw records-in (let e = records-length bs (w .none) in let m = within-limits bs (w .none) .records in omega arith)
+
+  pub code-short : length (codeIn h bs) < 2 ^ 16
+  code-short = rw code-in (let m = code-length bs (w .none) in omega arith)
+
+  pub inputs-fit : count (recordsIn h bs) ≤ h .places
+  inputs-fit = rw (records-in, w .numbers, records-counted bs (w .none)) (inputs-allowed bs (w .none))
+
+  pub places-fit : h .places ≤ 256
+  places-fit = rw (w .numbers) (places-allowed bs (w .none))
+
+  pub run-is : (l c : Label) (σ : Store) → l ≡ labelIn ws 0 → c ≡ labelIn ws 1
+      → σ ≡ startStore (inputSlots (inputs (labelIn ws) (recordsIn h bs) (count (recordsIn h bs)) 0))
+      → runs (program (codeIn h bs) ws (recordsIn h bs)) startControl (startAccount l c (h .steps) (count (recordsIn h bs)) (h .places)) σ ≡ fileRun bs
+  unfolding fileRun fileAccount fileInputs
+  run-is l c σ el ec es =
+      rw (el, ec, es, records-in, code-in, w .numbers, w .labels, program-is bs (w .none), labels-are bs (w .none), records-counted bs (w .none))
+
+pub finishes : (f : Finish) (s : State) (σ : Store) (o : Outcome) → Leaves f s → outcomeOf s σ ≡ o → Finishes f σ o
+finishes f s σ o w e =
+    record {
+      ending = ap (λ (q : Outcome). q .ending) (sym e) ∙ sym (w .ending);
+      label = ap (λ (q : Outcome). q .account .label) (sym e) ∙ sym (w .label);
+      clearance = ap (λ (q : Outcome). q .account .clearance) (sym e) ∙ sym (w .clearance);
+      steps = ap (λ (q : Outcome). q .account .steps) (sym e) ∙ sym (w .steps);
+      next = ap (λ (q : Outcome). q .account .next) (sym e) ∙ sym (w .next);
+      store = ap (λ (q : Outcome). q .store) (sym e);
+    }
+
+pub no-records : slots (replicate 1536 0) ≡ noRecords
+unfolding slots parts
+no-records = refl
+
+-- ── the answers ──
+
+length-padded : (n : ℕ) (xs : List ℕ) → length (padded n xs) ≡ n
+length-padded zero xs = refl
+length-padded (suc n) [] = ap suc (length-padded n [])
+length-padded (suc n) (x ∷ xs) = ap suc (length-padded n xs)
+
+-- the labels' words are as many as before, however the file loads
+pub length-words : (bs was ws : List ℕ) → length was ≡ 64 → ws ≡ wordsAfter bs was → length ws ≡ 64
+unfolding wordsAfter labelWords
+length-words bs was ws h e =
+    rw e
+    (cond-one (λ (l : List ℕ). length l ≡ 64) (eqb (refusal bs) 0) (λ _. length-padded 64 (tables (orNone (fileLabels bs)))) (λ _. h))
+
+stopped : (r : Refusal) → eqb (number r) 0 ≡ false
+unfolding number
+stopped Size = refl
+stopped Counts = refl
+stopped Offsets = refl
+stopped Labels = refl
+stopped Start = refl
+stopped Records = refl
+stopped Code = refl
+
+pub read-stopped : (bs : List ℕ) (i : ℕ) (b : List ℕ) (r : Refusal) (n : ℕ) → Stopped r ≡ loaded bs → n ≡ number r → refuse n b ≡ reading bs i b
+unfolding reading
+read-stopped bs i b r n e f = rw (f, ← refused-number bs r e, stopped r)
+
+pub read-loads : (bs : List ℕ) (h : Header) (was ws : List ℕ) → File h ≡ loaded bs → ws ≡ wordsAfter bs was → Loads bs h ws
+read-loads bs h was ws e f =
+    let z = file-number bs h e in
+    record { none = z; numbers = file-header bs h e; labels = f ∙ sym (loads bs was z .1) }
+
+module _ (bs : List ℕ) (h : Header) (ws : List ℕ) (w : Loads bs h ws) (i : ℕ) (b : List ℕ) where
+  pub read-unlisted : h .labels .count ≤ i → refuse 8 b ≡ reading bs i b
+  unfolding reading
+  read-unlisted g = rw (w .none, le-ltb i (header bs .labels .count) (rw (← w .numbers) g))
+
+  pub read-shown : (l : Label) (f : Finish) (σ : Store) → i < h .labels .count → l ≡ labelIn ws i → Finishes f σ (fileRun bs)
+      → show (view (readerOf l) (h .steps) (finished f σ)) b ≡ reading bs i b
+  unfolding reading fileView
+  read-shown l f σ g e k =
+      rw (w .none, lt-ltb i (header bs .labels .count) (rw (← w .numbers) g), e, w .labels, labels-are bs (w .none), w .numbers, ← k .store)
+      (ap (λ (v : List ℕ). show v b)
+      (sym (view-finished (readerOf (labelAt bs i)) (header bs .steps) (fileRun bs) f (k .ending) (k .label) (k .clearance) (k .steps) (k .next))))
+
+-- ── one number for the answer ──
+
+pub call-answered : (bs : List ℕ) (i : ℕ) (b out : List ℕ) (r : Answer) → reads r out ≡ reading bs i b
+    → (codeOf (answerOf r) ≡ codeOf (reading bs i b .answer)) × (out ≡ reading bs i b .buffer)
+call-answered bs i b out r e = (ap (λ (q : Reading). codeOf (q .answer)) e, ap (λ (q : Reading). q .buffer) e)

@@ -1,0 +1,14 @@
+-- `monitor::kind_of` meets its contract.
+use Rattle.monitor.specs.Placing.{kind-other}
+use borrow.Author.Needs.{needs}
+use Rattle.monitor.proofs.kind_of.Statement.{statement}
+use Rattle.monitor.proofs.kind_of.Tie as tie
+
+returns : tie.Need-returns
+returns c = search needs
+
+returns-2 : tie.Need-returns-2
+returns-2 c = kind-other _ (c .if1 .left)
+
+pub kind-of-spec : {M : Type 1} → statement M
+kind-of-spec = tie.close (tie.spec returns returns-2)
