@@ -14,8 +14,9 @@ ghost use Rattle.model.specs.State.{at};
 ghost use Rattle.store.specs.Slots.{words, slots};
 ghost use Rattle.effects.specs.Served.{served, targetOf, risesOf, raiseOf, lowerOf, labelOf, openedOf, openOf, makeOf, rewriteOf, writeOf, serve, roomOf, enterOf, outcomeOf};
 
-// What the state has to take over.
+// What the run state has to take over. All but the two faults drop the operands first.
 pub enum Effect {
+    // code, number
     Fault(u32, u32),
     Drop,
     Push(Datum),
@@ -27,16 +28,20 @@ pub enum Effect {
     End(Datum),
     Raise(Label),
     Lower(Label),
+    // the handle of a record that was made at the next place
     Make(Datum),
+    // a record's label, by which the label is raised, and its value, or its fault
     Open(Label, Datum),
     Throw(Label, u32, u32),
 }
 
+// What BLOCK comes to: a fault, or a body under a bound.
 pub enum Entry {
     Fault(u32),
     Body(Label),
 }
 
+// The account of a run, as far as faults 23 to 28 look at it.
 pub struct Account {
     pub label: Label,
     pub clearance: Label,
@@ -46,6 +51,9 @@ pub struct Account {
     pub depth: usize,
 }
 
+// ---- the checks
+
+// 23 and 24, as the code of the fault; 0 is none.
 fn target(label: Label, clearance: Label, l: Label) -> u32
     ensures { λ r. ⌜ r ≡ targetOf label clearance l ⌝ }
 {
@@ -58,11 +66,14 @@ fn target(label: Label, clearance: Label, l: Label) -> u32
     0
 }
 
+// 24 of RAISE, OPEN and READ: the raised label flows to the clearance.
 fn rises(label: Label, clearance: Label, l: Label) -> bool
     ensures { λ r. ⌜ r ≡ risesOf label clearance l ⌝ }
 {
     labels::flows(labels::join(label, l), clearance)
 }
+
+// ---- the plans
 
 fn raise(label: Label, clearance: Label, l: Label) -> Effect
     ensures { λ r. ⌜ r ≡ raiseOf label clearance l ⌝ }
@@ -190,6 +201,7 @@ fn rewrite(
     Effect::Drop
 }
 
+// What a plan comes to.
 pub fn effect_of(p: Plan, a: Account, store: &mut [u64]) -> Effect
     requires { ⌜ length (now store) ≡ words ⌝ }
     ensures { λ r. ⌜ served r (slots (now (store .exit))) ≡ serve a (slots (now (store .entry))) p ⌝ }
@@ -216,6 +228,8 @@ pub fn effect_of(p: Plan, a: Account, store: &mut [u64]) -> Effect
     }
 }
 
+// ---- blocks
+
 fn room(a: Account, b: Label, n: usize, k: usize) -> Entry
     requires { ⌜ a .next ≤ a .limit ⌝ }
     ensures { λ r. ⌜ r ≡ roomOf a b n k ⌝ }
@@ -238,6 +252,7 @@ fn room(a: Account, b: Label, n: usize, k: usize) -> Entry
     Entry::Body(b)
 }
 
+// BLOCK's checks, on the top of the stack and its own n and k.
 pub fn enter(a: Account, height: usize, y: Datum, n: usize, k: usize) -> Entry
     requires { ⌜ a .next ≤ a .limit ⌝ }
     ensures { λ r. ⌜ r ≡ enterOf a height y n k ⌝ }
@@ -252,6 +267,7 @@ pub fn enter(a: Account, height: usize, y: Datum, n: usize, k: usize) -> Entry
     }
 }
 
+// The contents of a block's outcome: 31 if the body's last label doesn't flow to the bound, however it ended.
 pub fn outcome(label: Label, e: Ending, b: Label) -> Contents
     ensures { λ r. ⌜ r ≡ outcomeOf label e b ⌝ }
 {

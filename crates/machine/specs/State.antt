@@ -121,6 +121,9 @@ jumped t s = record { stack = s .stack; top = s .top; locals = s .locals; frames
 abbrev pub kept : ℕ → Value → State → State
 kept i v s = record { stack = s .stack; top = s .top; locals = set (s .locals) i v; frames = s .frames; newest = s .newest; label = s .label; clearance = s .clearance; steps = s .steps; next = s .next; limit = s .limit; depth = s .depth; pc = s .pc; progress = s .progress }
 
+abbrev pub with-locals : List Value → State → State
+with-locals ls s = record { stack = s .stack; top = s .top; locals = ls; frames = s .frames; newest = s .newest; label = s .label; clearance = s .clearance; steps = s .steps; next = s .next; limit = s .limit; depth = s .depth; pc = s .pc; progress = s .progress }
+
 abbrev pub framed : ℕ → State → State
 framed h s = record { stack = s .stack; top = s .top; locals = s .locals; frames = set (s .frames) (s .newest - 1) (record { handler = h; height = 32 - s .top }); newest = s .newest - 1; label = s .label; clearance = s .clearance; steps = s .steps; next = s .next; limit = s .limit; depth = s .depth; pc = s .pc; progress = s .progress }
 
@@ -231,6 +234,10 @@ module _ (k : ℕ) (s : State) (o : Ok s) (live : Live s) where
 
     pub does-set : (i : ℕ) (d : Datum) → Does (kept i (value d) (popped k s)) (λ σ. settle k (control s) (account s) σ (Set i d))
     does-set i d = record { ok = ok-kept i (value d) (popped k s) (ok-popped k s o low); eq = λ σ. next-live (kept i (value d) (popped k s)) live σ ∙ ap (λ (c : Control). go (setLocal i d c) (account s) σ) (control-popped k s) }
+
+    -- the locals after a store, or as they were where i is past their end
+    pub does-store : (i : ℕ) (d : Datum) (ls : List Value) → ls ≡ set (s .locals) i (value d) → Does (with-locals ls (popped k s)) (λ σ. settle k (control s) (account s) σ (Set i d))
+    does-store i d ls e = rw e (does-set i d)
 
     pub does-jump : (t : ℕ) → Does (jumped t (popped k s)) (λ σ. settle k (control s) (account s) σ (Jump t))
     does-jump t = record { ok = ok-popped k s o low; eq = λ σ. next-live (jumped t (popped k s)) live σ ∙ ap (λ (c : Control). go (jump t c) (account s) σ) (control-popped k s) }

@@ -158,6 +158,30 @@ pub ran-settled : (r : State) (k : ℕ) (c : Control) (a : Account) (τ : Store)
     → Does r (λ σ. settle k c a σ f) → e ≡ f → settle k c a τ e ≡ n → Ran r τ n
 ran-settled r k c a τ e f n d q m = record { ok = d .ok; eq = d .eq τ ∙ ap (settle k c a τ) (sym q) ∙ m }
 
+-- what the code finds for an instruction that is no BLOCK: the effect has what it takes, and stands for the step
+pub record Found (code ws rs : List ℕ) (s : State) (σ τ : Store) (t k : ℕ) (e : Effect) : Type 0 where
+  pub fits : FitsEffect (s .top) (s .newest) (s .next) (s .limit) k e
+  pub meets : settle k (control (jumped t s)) (account s) τ e ≡ stepOf code ws rs s σ
+
+pub found : (code ws rs : List ℕ) (s : State) (σ τ : Store) (d : Decoded) (ar : Arity) (f g : ℕ) (y x : Datum) (p : Plan) (e : Effect)
+    → Ok s → (byte code (s .pc) ≡ 25 → ⊥) → d ≡ record { instr = fetch code (s .pc); after = after code (s .pc) } → ar ≡ arity (d .instr)
+    → f ≡ min (s .top) 31 → g ≡ min (s .top + 1) 31
+    → y ≡ presentOf (s .top) 32 (getD (s .stack) f (number 0)) → x ≡ presentOf (s .top + 1) 32 (getD (s .stack) g (number 0))
+    → p ≡ planOf (d .instr) ar (record { height = 32 - s .top; top = y; second = x; frames = 8 - s .newest; label = s .label; clearance = s .clearance }) ws rs
+    → served e τ ≡ serve (lent (account s)) σ p
+    → Found code ws rs s σ τ (d .after) (ar .takes) e
+found code ws rs s σ τ d ar f g y x p e ok nb ed ea ef eg ey ex ep ev =
+    let s1 : State = jumped (d .after) s in
+    let o = operands-found s1 f g y x ok ef eg ey ex in
+    record {
+      fits = step-fits ws rs σ τ s1 (d .instr) ar (record { height = 32 - s .top; top = y; second = x; frames = 8 - s .newest; label = s .label; clearance = s .clearance }) p e ok ea o ep ev;
+      meets = step-meets code ws rs s (runs (program code ws rs)) σ s1 d ar (record { height = 32 - s .top; top = y; second = x; frames = 8 - s .newest; label = s .label; clearance = s .clearance }) p e τ refl ed (not-block code (s .pc) nb) ea o ep ev;
+    }
+
+pub found-ran : (code ws rs : List ℕ) (s r : State) (σ τ : Store) (t k : ℕ) (e f : Effect) → Found code ws rs s σ τ t k e → e ≡ f
+    → Does r (λ σ. settle k (control (jumped t s)) (account s) σ f) → Ran r τ (stepOf code ws rs s σ)
+found-ran code ws rs s r σ τ t k e f w q d = ran-settled r k (control (jumped t s)) (account s) τ e f (stepOf code ws rs s σ) d q (w .meets)
+
 -- no instruction leaves more than two values
 pub leaves-few : (i : Instr) → arity i .leaves ≤ 2
 unfolding arity

@@ -1,4 +1,5 @@
-// The run state, and the interpreter.
+// The run state, passed and returned by value, and the interpreter. The records are lent beside it, as words: the state
+// is copied, and 256 records in it would be copied too.
 use effects::Account;
 use effects::Effect;
 use effects::Entry;
@@ -19,9 +20,7 @@ ghost use Rattle.model.specs.Effects.{fail};
 ghost use Rattle.model.specs.Running.{runs, startControl, startAccount};
 ghost use Rattle.operands.specs.Program.{program, count};
 ghost use Rattle.store.specs.Slots.{words, slots};
-ghost use Rattle.effects.specs.Bridge.{settle};
-ghost use Rattle.machine.specs.State.{Ok, Live, Does, Ran, control, account, endingOf, outcomeOf, isLive, presentOf, popped, pushed, raised, lowered, charged, taken, jumped, kept, framed, unframed, ended, bodied};
-ghost use Rattle.machine.specs.Fits.{FitsEffect};
+ghost use Rattle.machine.specs.State.{Ok, Live, Does, Ran, control, account, endingOf, outcomeOf, isLive, presentOf, popped, pushed, raised, lowered, charged, taken, jumped, framed, unframed, ended, bodied};
 ghost use Rattle.machine.specs.Steps.{Sizes, Started, stepOf, runOf};
 
 pub enum Status {
@@ -29,26 +28,32 @@ pub enum Status {
     Ended(Ending),
 }
 
+// A struct of its own, so that the field can be set.
 pub struct Progress {
     pub status: Status,
 }
 
 pub struct State {
+    // Grows downwards: the values are those from `top` on, the top one first.
     pub stack: [Value; 32],
     pub top: usize,
     pub locals: [Value; 16],
+    // As the stack, the newest first.
     pub frames: [Frame; 8],
     pub newest: usize,
     pub label: Label,
     pub clearance: Label,
     pub steps: usize,
+    // The places left are those from `next` up to `limit`.
     pub next: usize,
     pub limit: usize,
+    // How many blocks the run is nested in.
     pub depth: usize,
     pub pc: usize,
     pub progress: Progress,
 }
 
+// The opcode of BLOCK, 19 in hexadecimal.
 const BLOCK: u8 = 25;
 
 fn number(n: u32) -> Value
@@ -68,6 +73,7 @@ fn least(a: usize, b: usize) -> usize
     b
 }
 
+// What was read for place i of n: past the end stands the number 0.
 fn present(i: usize, n: usize, v: Value) -> Datum
     ensures { λ r. ⌜ r ≡ presentOf i n v ⌝ }
 {
@@ -77,6 +83,7 @@ fn present(i: usize, n: usize, v: Value) -> Datum
     Datum::Number(0)
 }
 
+// How a run ended.
 pub fn ending(p: Progress) -> Ending
     ensures { λ r. ⌜ r ≡ endingOf (p .status) ⌝ }
 {
@@ -88,6 +95,7 @@ pub fn ending(p: Progress) -> Ending
 }
 
 impl State {
+    // Drops k values.
     pub fn pop(mut self, k: usize) -> State
         requires { ⌜ self .top + k ≤ 32 ⌝ }
         ensures { λ r. ⌜ r ≡ popped k self ⌝ }
@@ -107,6 +115,7 @@ impl State {
         self
     }
 
+    // Joins a label to the current one.
     pub fn raise(mut self, l: Label) -> State
         ensures { λ r. ⌜ r ≡ raised l self ⌝ }
     {
@@ -116,6 +125,7 @@ impl State {
         self
     }
 
+    // Sets the clearance.
     pub fn lower(mut self, l: Label) -> State
         ensures { λ r. ⌜ r ≡ lowered l self ⌝ }
     {
@@ -123,6 +133,7 @@ impl State {
         self
     }
 
+    // Pays n steps.
     pub fn charge(mut self, n: usize) -> State
         requires { ⌜ n ≤ self .steps ⌝ }
         ensures { λ r. ⌜ r ≡ charged n self ⌝ }
@@ -132,6 +143,7 @@ impl State {
         self
     }
 
+    // Takes n places.
     fn take(mut self, n: usize) -> State
         requires { ⌜ self .next + n < 2 ^ 32 ⌝ }
         ensures { λ r. ⌜ r ≡ taken n self ⌝ }
@@ -145,16 +157,6 @@ impl State {
         ensures { λ r. ⌜ r ≡ jumped t self ⌝ }
     {
         self.pc = t;
-        self
-    }
-
-    fn set(mut self, i: usize, v: Value) -> State
-        requires { ⌜ length (self .locals) ≡ 16 ⌝ }
-        ensures { λ r. ⌜ r ≡ kept i v self ⌝ }
-    {
-        if i < 16 {
-            self.locals[i] = v;
-        }
         self
     }
 
@@ -199,6 +201,7 @@ impl State {
         }
     }
 
+    // Sends a fault to the newest frame's handler, or ends the run with it.
     fn fail(mut self, code: u32, number: u32) -> State
         requires { ⌜ Ok self × Live self ⌝ }
         ensures { λ r. ⌜ Does r (fail code number (control self) (account self)) ⌝ }
@@ -216,6 +219,7 @@ impl State {
         s.push(crate::number(number))
     }
 
+    // The state that a block's body starts with: n steps, k places, and the locals as they are.
     fn body(mut self, t: usize, n: usize, k: usize) -> State
         requires { ⌜ (self .next + 1 + k < 2 ^ 32) × (self .depth < 8) ⌝ }
         ensures { λ r. ⌜ r ≡ bodied t n k self ⌝ }
@@ -232,34 +236,6 @@ impl State {
         self
     }
 
-    // Takes an effect over, k operands being the instruction's. A fault leaves them in place.
-    fn settle(mut self, k: usize, e: Effect) -> State
-        requires { ⌜ Ok self × Live self × FitsEffect (self .top) (self .newest) (self .next) (self .limit) k e ⌝ }
-        ensures { λ r. ⌜ Does r (λ σ. settle k (control self) (account self) σ e) ⌝ }
-    {
-        match e {
-            Effect::Fault(code, n) => self.fail(code, n),
-            Effect::Throw(l, code, n) => self.raise(l).fail(code, n),
-            Effect::Drop => self.pop(k),
-            Effect::Push(d) => self.pop(k).push(Value { datum: d }),
-            Effect::Get(i) => {
-                let at = least(i, 15);
-                let v = self.locals[at];
-                let d = present(i, 16, v);
-                self.pop(k).push(Value { datum: d })
-            }
-            Effect::Set(i, d) => self.pop(k).set(i, Value { datum: d }),
-            Effect::Jump(t) => self.pop(k).jump(t),
-            Effect::Try(h) => self.pop(k).enter_try(h),
-            Effect::Done => self.pop(k).leave_try(),
-            Effect::End(d) => self.pop(k).end(Ending::Result(d)),
-            Effect::Raise(l) => self.pop(k).raise(l),
-            Effect::Lower(l) => self.pop(k).lower(l),
-            Effect::Make(d) => self.take(1).pop(k).push(Value { datum: d }),
-            Effect::Open(l, d) => self.raise(l).pop(k).push(Value { datum: d }),
-        }
-    }
-
     // Any instruction but BLOCK.
     fn plain(mut self, code: &[u8], labels: &[u64], records: &[u8], store: &mut [u64]) -> State
         requires { ⌜ Ok self × Live self × Sizes (now code) (now labels) (now store) × (byte (now code) (self .pc) ≡ 25 → ⊥) ⌝ }
@@ -269,7 +245,7 @@ impl State {
         let d = decode::decode(code, pc);
         let i = d.instr;
         let after = d.after;
-        self = self.jump(after);
+        self.pc = after;
         let a = decode::arity(i);
         let top = self.top;
         let under = top + 1;
@@ -298,10 +274,75 @@ impl State {
         };
         let e = effects::effect_of(p, lent, store);
         let k = a.takes;
-        self.settle(k, e)
+        match e {
+            Effect::Fault(code, n) => {
+                return self.fail(code, n);
+            }
+            Effect::Throw(l, code, n) => {
+                return self.raise(l).fail(code, n);
+            }
+            Effect::Drop => {
+                self = self.pop(k);
+            }
+            Effect::Push(d) => {
+                let at = top + k - 1;
+                self.stack[at] = Value { datum: d };
+                self.top = at;
+            }
+            Effect::Get(i) => {
+                let from = least(i, 15);
+                let v = self.locals[from];
+                let d = present(i, 16, v);
+                let at = top + k - 1;
+                self.stack[at] = Value { datum: d };
+                self.top = at;
+            }
+            Effect::Set(i, d) => {
+                self = self.pop(k);
+                if i < 16 {
+                    self.locals[i] = Value { datum: d };
+                }
+            }
+            Effect::Jump(t) => {
+                self = self.pop(k);
+                self = self.jump(t);
+            }
+            Effect::Try(h) => {
+                return self.pop(k).enter_try(h);
+            }
+            Effect::Done => {
+                self = self.pop(k);
+                self = self.leave_try();
+            }
+            Effect::End(d) => {
+                self = self.pop(k);
+                self = self.end(Ending::Result(d));
+            }
+            Effect::Raise(l) => {
+                self = self.pop(k);
+                self = self.raise(l);
+            }
+            Effect::Lower(l) => {
+                self = self.pop(k);
+                self = self.lower(l);
+            }
+            Effect::Make(d) => {
+                self = self.take(1);
+                let at = top + k - 1;
+                self.stack[at] = Value { datum: d };
+                self.top = at;
+            }
+            Effect::Open(l, d) => {
+                self = self.raise(l);
+                let at = top + k - 1;
+                self.stack[at] = Value { datum: d };
+                self.top = at;
+            }
+        }
+        self
     }
 
-    // BLOCK.
+    // BLOCK. The body runs on a copy of the state, so label, clearance, stack and locals are the outer run's own afterwards.
     fn block(mut self, code: &[u8], labels: &[u64], records: &[u8], store: &mut [u64]) -> State
         requires { ⌜ Ok self × Live self × Sizes (now code) (now labels) (now store) × (byte (now code) (self .pc) ≡ 25) ⌝ }
         ensures { λ r. ⌜ Ran r (slots (now (store .exit))) (stepOf (now (code .entry)) (now (labels .entry)) (now (records .entry)) self (slots (now (store .entry)))) ⌝ }
@@ -362,6 +403,7 @@ impl State {
         self.plain(code, labels, records, store)
     }
 
+    // A run to its end.
     pub fn run(mut self, code: &[u8], labels: &[u64], records: &[u8], store: &mut [u64]) -> State
         requires { ⌜ Ok self × Live self × Sizes (now code) (now labels) (now store) ⌝ }
         ensures { λ r. ⌜ outcomeOf r (slots (now (store .exit))) ≡ runOf (now (code .entry)) (now (labels .entry)) (now (records .entry)) self (slots (now (store .entry))) ⌝ }
@@ -371,12 +413,18 @@ impl State {
                 return self.end(Ending::Spent);
             }
             self = self.charge(1);
-            self = self.step(code, labels, records, store);
+            let pc = self.pc;
+            if decode::byte_at(code, pc) == BLOCK {
+                self = self.block(code, labels, records, store);
+            } else {
+                self = self.plain(code, labels, records, store);
+            }
         }
         self
     }
 }
 
+// A run that has not begun, with the places from `next` up to `limit` to fill.
 pub fn start(label: Label, clearance: Label, steps: usize, next: usize, limit: usize) -> State
     requires { ⌜ (next ≤ limit) × (limit ≤ 256) ⌝ }
     ensures { λ r. ⌜ Started r label clearance steps next limit ⌝ }

@@ -17,13 +17,10 @@ use borrow.Fn.Kinds.{In}
 use borrow.Fn.PlainCycle.{Measures, is, falls, and}
 use Rattle.machine.proofs.State.block.Reads as block
 use Rattle.machine.proofs.State.block.Kinds as block-kinds
-use Rattle.machine.proofs.State.+block+run+step.Lts-block as block-lts
+use Rattle.machine.proofs.State.+block+run.Lts-block as block-lts
 use Rattle.machine.proofs.State.run.Reads as run
 use Rattle.machine.proofs.State.run.Kinds as run-kinds
-use Rattle.machine.proofs.State.+block+run+step.Lts-run as run-lts
-use Rattle.machine.proofs.State.step.Reads as step
-use Rattle.machine.proofs.State.step.Kinds as step-kinds
-use Rattle.machine.proofs.State.+block+run+step.Lts-step as step-lts
+use Rattle.machine.proofs.State.+block+run.Lts-run as run-lts
 use Rattle.decode.proofs.byte_at.Reads as byte-at-reads
 use Rattle.decode.proofs.u16_at.Reads as u16-at-reads
 use Rattle.effects.proofs.enter.Reads as enter-reads
@@ -42,17 +39,14 @@ use Rattle.machine.proofs.ending.Reads as ending-reads
 use Rattle.machine.proofs.least.Reads as least-reads
 use Rattle.machine.proofs.present.Reads as present-reads
 use Rattle.store.proofs.save.Reads as save-reads
-use Rattle.machine.proofs.State.+block+run+step.{statement}
-use Rattle.machine.proofs.State.+block+run+step.Tie.{close}
+use Rattle.machine.proofs.State.+block+run.{statement}
+use Rattle.machine.proofs.State.+block+run.Tie.{close}
 
 abbrev μ-block : Measures 4 block-kinds.ps ℕ
-μ-block κs a = a .0 .steps + a .0 .steps + a .0 .steps + 1
+μ-block κs a = a .0 .steps + a .0 .steps + 1
 
 abbrev μ-run : Measures 4 run-kinds.ps ℕ
-μ-run κs a = a .0 .steps + a .0 .steps + a .0 .steps
-
-abbrev μ-step : Measures 4 step-kinds.ps ℕ
-μ-step κs a = a .0 .steps + a .0 .steps + a .0 .steps + 2
+μ-run κs a = a .0 .steps + a .0 .steps
 
 abbrev block-at : ℕ → In 4 block-kinds.ps
 block-at t = and 4 block-kinds.ps (is 4 block-kinds.ps μ-block t) block.Pre
@@ -65,12 +59,6 @@ run-at t = and 4 run-kinds.ps (is 4 run-kinds.ps μ-run t) run.Pre
 
 abbrev run-below : ℕ → In 4 run-kinds.ps
 run-below t = and 4 run-kinds.ps (falls 4 run-kinds.ps _<_ μ-run t) run.Pre
-
-abbrev step-at : ℕ → In 4 step-kinds.ps
-step-at t = and 4 step-kinds.ps (is 4 step-kinds.ps μ-step t) step.Pre
-
-abbrev step-below : ℕ → In 4 step-kinds.ps
-step-below t = and 4 step-kinds.ps (falls 4 step-kinds.ps _<_ μ-step t) step.Pre
 
 block-add-u16-at : (t : ℕ) → block-lts.Need-add-u16-at (
   u16-at-reads.Asked,
@@ -1273,8 +1261,12 @@ run-loop-holds : (t : ℕ) → run-lts.Need-loop-holds (
   end-reads.Learnt,
   charge-reads.Asked,
   charge-reads.Learnt,
-  step-below t,
-  step.Post,
+  byte-at-reads.Asked,
+  byte-at-reads.Learnt,
+  block-below t,
+  block.Post,
+  plain-reads.Asked,
+  plain-reads.Learnt,
 ) (run-at t) run.Post run-Inv-loop run-μ-loop
 run-loop-holds t c = let code = now (c .before .before .before .before .args .code) in let ws = now (c .before .before .before .before .args .labels) in let rs = now (c .before .before .before .before .args .records) in (c .before .before .before .before .pre .1 .0, c .before .before .before .before .pre .1 .2 .store, le-refl _, rest-live code ws rs (c .before .before .before .before .args .self) (slots (now (c .before .before .before .before .args .store))) (c .before .before .before .before .pre .1 .1))
 
@@ -1285,8 +1277,12 @@ run-live-requires : (t : ℕ) → run-lts.Need-live-requires (
   end-reads.Learnt,
   charge-reads.Asked,
   charge-reads.Learnt,
-  step-below t,
-  step.Post,
+  byte-at-reads.Asked,
+  byte-at-reads.Learnt,
+  block-below t,
+  block.Post,
+  plain-reads.Asked,
+  plain-reads.Learnt,
 ) (run-at t) run.Post run-Inv-loop run-μ-loop
 run-live-requires t c κs = search needs
 
@@ -1297,8 +1293,12 @@ run-end-requires : (t : ℕ) → run-lts.Need-end-requires (
   end-reads.Learnt,
   charge-reads.Asked,
   charge-reads.Learnt,
-  step-below t,
-  step.Post,
+  byte-at-reads.Asked,
+  byte-at-reads.Learnt,
+  block-below t,
+  block.Post,
+  plain-reads.Asked,
+  plain-reads.Learnt,
 ) (run-at t) run.Post run-Inv-loop run-μ-loop
 run-end-requires t c κs = search needs
 
@@ -1309,8 +1309,12 @@ run-same-length : (t : ℕ) → run-lts.Need-same-length (
   end-reads.Learnt,
   charge-reads.Asked,
   charge-reads.Learnt,
-  step-below t,
-  step.Post,
+  byte-at-reads.Asked,
+  byte-at-reads.Learnt,
+  block-below t,
+  block.Post,
+  plain-reads.Asked,
+  plain-reads.Learnt,
 ) (run-at t) run.Post run-Inv-loop run-μ-loop
 run-same-length t c = c .before .before .before .before .before .loop .inv .1 ∙ sym (c .before .before .before .before .before .before .before .before .before .before .pre .1 .2 .store)
 
@@ -1321,8 +1325,12 @@ run-returns : (t : ℕ) → run-lts.Need-returns (
   end-reads.Learnt,
   charge-reads.Asked,
   charge-reads.Learnt,
-  step-below t,
-  step.Post,
+  byte-at-reads.Asked,
+  byte-at-reads.Learnt,
+  block-below t,
+  block.Post,
+  plain-reads.Asked,
+  plain-reads.Learnt,
 ) (run-at t) run.Post run-Inv-loop run-μ-loop
 run-returns t c = let i = c .before .before .before .before .before .loop .inv in let code = now (c .before .before .before .before .before .before .before .before .before .before .args .code) in let ws = now (c .before .before .before .before .before .before .before .before .before .before .args .labels) in let rs = now (c .before .before .before .before .before .before .before .before .before .before .args .records) in rw (c .end .ensures) (rest-spent code ws rs (c .before .before .before .before .before .loop .self) (slots (c .before .before .before .before .before .loop .store)) (live-true _ (sym (c .before .before .before .before .live .ensures) ∙ c .before .before .before .if1 .taken)) (c .before .if2 .taken) ∙ i .3)
 
@@ -1333,22 +1341,46 @@ run-charge-requires : (t : ℕ) → run-lts.Need-charge-requires (
   end-reads.Learnt,
   charge-reads.Asked,
   charge-reads.Learnt,
-  step-below t,
-  step.Post,
+  byte-at-reads.Asked,
+  byte-at-reads.Learnt,
+  block-below t,
+  block.Post,
+  plain-reads.Asked,
+  plain-reads.Learnt,
 ) (run-at t) run.Post run-Inv-loop run-μ-loop
 run-charge-requires t c κs = omega (arith, c .if2 .left)
 
-run-step-requires : (t : ℕ) → run-lts.Need-step-requires (
+run-byte-at-requires : (t : ℕ) → run-lts.Need-byte-at-requires (
   live-reads.Asked,
   live-reads.Learnt,
   end-reads.Asked,
   end-reads.Learnt,
   charge-reads.Asked,
   charge-reads.Learnt,
-  step-below t,
-  step.Post,
+  byte-at-reads.Asked,
+  byte-at-reads.Learnt,
+  block-below t,
+  block.Post,
+  plain-reads.Asked,
+  plain-reads.Learnt,
 ) (run-at t) run.Post run-Inv-loop run-μ-loop
-run-step-requires t c κs = let i = c .before .before .before .before .before .before .loop .inv in rw (c .before .charge .ensures) (omega (arith, i .2, c .before .before .if2 .left, c .before .before .before .before .before .before .before .before .before .before .before .pre .0), (i .0, live-true _ (sym (c .before .before .before .before .before .live .ensures) ∙ c .before .before .before .before .if1 .taken), record { code = c .before .before .before .before .before .before .before .before .before .before .before .pre .1 .2 .code; labels = c .before .before .before .before .before .before .before .before .before .before .before .pre .1 .2 .labels; store = i .1 }))
+run-byte-at-requires t c κs = search needs
+
+run-block-requires : (t : ℕ) → run-lts.Need-block-requires (
+  live-reads.Asked,
+  live-reads.Learnt,
+  end-reads.Asked,
+  end-reads.Learnt,
+  charge-reads.Asked,
+  charge-reads.Learnt,
+  byte-at-reads.Asked,
+  byte-at-reads.Learnt,
+  block-below t,
+  block.Post,
+  plain-reads.Asked,
+  plain-reads.Learnt,
+) (run-at t) run.Post run-Inv-loop run-μ-loop
+run-block-requires t c κs = let i = c .before .before .before .before .before .before .before .before .loop .inv in rw (c .before .before .before .charge .ensures) (omega (arith, i .2, c .before .before .before .before .if2 .left, c .before .before .before .before .before .before .before .before .before .before .before .before .before .pre .0), (i .0, live-true _ (sym (c .before .before .before .before .before .before .before .live .ensures) ∙ c .before .before .before .before .before .before .if1 .taken), record { code = c .before .before .before .before .before .before .before .before .before .before .before .before .before .pre .1 .2 .code; labels = c .before .before .before .before .before .before .before .before .before .before .before .before .before .pre .1 .2 .labels; store = i .1 }, rw (c .before .before .before .charge .ensures) at (sym (c .before .before .byte-at .ensures) ∙ c .before .if3 .taken)))
 
 run-loop-less : (t : ℕ) → run-lts.Need-loop-less (
   live-reads.Asked,
@@ -1357,10 +1389,14 @@ run-loop-less : (t : ℕ) → run-lts.Need-loop-less (
   end-reads.Learnt,
   charge-reads.Asked,
   charge-reads.Learnt,
-  step-below t,
-  step.Post,
+  byte-at-reads.Asked,
+  byte-at-reads.Learnt,
+  block-below t,
+  block.Post,
+  plain-reads.Asked,
+  plain-reads.Learnt,
 ) (run-at t) run.Post run-Inv-loop run-μ-loop
-run-loop-less t c = let i = c .before .before .before .before .before .before .before .before .before .loop .inv in let code = now (c .before .before .before .before .before .before .before .before .before .before .before .before .before .before .args .code) in let ws = now (c .before .before .before .before .before .before .before .before .before .before .before .before .before .before .args .labels) in let rs = now (c .before .before .before .before .before .before .before .before .before .before .before .before .before .before .args .records) in steps-fall code ws rs (c .before .before .before .before .before .before .before .before .before .loop .self) (c .before .before .step .result) _ _ (rw (c .before .before .before .before .charge .ensures) at (c .before .before .step .ensures)) (omega (arith, c .before .before .before .before .before .if2 .left))
+run-loop-less t c = let i = c .before .before .before .before .before .before .before .before .before .before .before .loop .inv in let code = now (c .before .before .before .before .before .before .before .before .before .before .before .before .before .before .before .before .args .code) in let ws = now (c .before .before .before .before .before .before .before .before .before .before .before .before .before .before .before .before .args .labels) in let rs = now (c .before .before .before .before .before .before .before .before .before .before .before .before .before .before .before .before .args .records) in steps-fall code ws rs (c .before .before .before .before .before .before .before .before .before .before .before .loop .self) (c .before .before .block .result) _ _ (rw (c .before .before .before .before .before .before .charge .ensures) at (c .before .before .block .ensures)) (omega (arith, c .before .before .before .before .before .before .before .if2 .left))
 
 run-loop-again : (t : ℕ) → run-lts.Need-loop-again (
   live-reads.Asked,
@@ -1369,10 +1405,62 @@ run-loop-again : (t : ℕ) → run-lts.Need-loop-again (
   end-reads.Learnt,
   charge-reads.Asked,
   charge-reads.Learnt,
-  step-below t,
-  step.Post,
+  byte-at-reads.Asked,
+  byte-at-reads.Learnt,
+  block-below t,
+  block.Post,
+  plain-reads.Asked,
+  plain-reads.Learnt,
 ) (run-at t) run.Post run-Inv-loop run-μ-loop
-run-loop-again t c = let i = c .before .before .before .before .before .before .before .before .before .loop .inv in let code = now (c .before .before .before .before .before .before .before .before .before .before .before .before .before .before .args .code) in let ws = now (c .before .before .before .before .before .before .before .before .before .before .before .before .before .before .args .labels) in let rs = now (c .before .before .before .before .before .before .before .before .before .before .before .before .before .before .args .records) in let f = steps-fall code ws rs (c .before .before .before .before .before .before .before .before .before .loop .self) (c .before .before .step .result) _ _ (rw (c .before .before .before .before .charge .ensures) at (c .before .before .step .ensures)) (omega (arith, c .before .before .before .before .before .if2 .left)) in (c .before .before .step .ensures .ok, c .before .before .step .kept .1 .1 .1 .1 .0 ∙ i .1, omega (arith, f, i .2), rest-step code ws rs (c .before .before .before .before .before .before .before .before .before .loop .self) (c .before .before .step .result) _ _ (rw (c .before .before .before .before .charge .ensures) at (c .before .before .step .ensures)) (live-true _ (sym (c .before .before .before .before .before .before .before .before .live .ensures) ∙ c .before .before .before .before .before .before .before .if1 .taken)) (omega (arith, c .before .before .before .before .before .if2 .left)) ∙ i .3)
+run-loop-again t c = let i = c .before .before .before .before .before .before .before .before .before .before .before .loop .inv in let code = now (c .before .before .before .before .before .before .before .before .before .before .before .before .before .before .before .before .args .code) in let ws = now (c .before .before .before .before .before .before .before .before .before .before .before .before .before .before .before .before .args .labels) in let rs = now (c .before .before .before .before .before .before .before .before .before .before .before .before .before .before .before .before .args .records) in let f = steps-fall code ws rs (c .before .before .before .before .before .before .before .before .before .before .before .loop .self) (c .before .before .block .result) _ _ (rw (c .before .before .before .before .before .before .charge .ensures) at (c .before .before .block .ensures)) (omega (arith, c .before .before .before .before .before .before .before .if2 .left)) in (c .before .before .block .ensures .ok, c .before .before .block .kept .1 .1 .1 .1 .0 ∙ i .1, omega (arith, f, i .2), rest-step code ws rs (c .before .before .before .before .before .before .before .before .before .before .before .loop .self) (c .before .before .block .result) _ _ (rw (c .before .before .before .before .before .before .charge .ensures) at (c .before .before .block .ensures)) (live-true _ (sym (c .before .before .before .before .before .before .before .before .before .before .live .ensures) ∙ c .before .before .before .before .before .before .before .before .before .if1 .taken)) (omega (arith, c .before .before .before .before .before .before .before .if2 .left)) ∙ i .3)
+
+run-plain-requires : (t : ℕ) → run-lts.Need-plain-requires (
+  live-reads.Asked,
+  live-reads.Learnt,
+  end-reads.Asked,
+  end-reads.Learnt,
+  charge-reads.Asked,
+  charge-reads.Learnt,
+  byte-at-reads.Asked,
+  byte-at-reads.Learnt,
+  block-below t,
+  block.Post,
+  plain-reads.Asked,
+  plain-reads.Learnt,
+) (run-at t) run.Post run-Inv-loop run-μ-loop
+run-plain-requires t c κs = let i = c .before .before .before .before .before .before .before .before .loop .inv in rw (c .before .before .before .charge .ensures) (i .0, live-true _ (sym (c .before .before .before .before .before .before .before .live .ensures) ∙ c .before .before .before .before .before .before .if1 .taken), record { code = c .before .before .before .before .before .before .before .before .before .before .before .before .before .pre .1 .2 .code; labels = c .before .before .before .before .before .before .before .before .before .before .before .before .before .pre .1 .2 .labels; store = i .1 }, λ z. c .before .if3 .left ((rw (c .before .before .before .charge .ensures) at (c .before .before .byte-at .ensures)) ∙ z))
+
+run-loop-less-2 : (t : ℕ) → run-lts.Need-loop-less-2 (
+  live-reads.Asked,
+  live-reads.Learnt,
+  end-reads.Asked,
+  end-reads.Learnt,
+  charge-reads.Asked,
+  charge-reads.Learnt,
+  byte-at-reads.Asked,
+  byte-at-reads.Learnt,
+  block-below t,
+  block.Post,
+  plain-reads.Asked,
+  plain-reads.Learnt,
+) (run-at t) run.Post run-Inv-loop run-μ-loop
+run-loop-less-2 t c = let i = c .before .before .before .before .before .before .before .before .before .before .before .loop .inv in let code = now (c .before .before .before .before .before .before .before .before .before .before .before .before .before .before .before .before .args .code) in let ws = now (c .before .before .before .before .before .before .before .before .before .before .before .before .before .before .before .before .args .labels) in let rs = now (c .before .before .before .before .before .before .before .before .before .before .before .before .before .before .before .before .args .records) in steps-fall code ws rs (c .before .before .before .before .before .before .before .before .before .before .before .loop .self) (c .before .before .plain .result) _ _ (rw (c .before .before .before .before .before .before .charge .ensures) at (c .before .before .plain .ensures)) (omega (arith, c .before .before .before .before .before .before .before .if2 .left))
+
+run-loop-again-2 : (t : ℕ) → run-lts.Need-loop-again-2 (
+  live-reads.Asked,
+  live-reads.Learnt,
+  end-reads.Asked,
+  end-reads.Learnt,
+  charge-reads.Asked,
+  charge-reads.Learnt,
+  byte-at-reads.Asked,
+  byte-at-reads.Learnt,
+  block-below t,
+  block.Post,
+  plain-reads.Asked,
+  plain-reads.Learnt,
+) (run-at t) run.Post run-Inv-loop run-μ-loop
+run-loop-again-2 t c = let i = c .before .before .before .before .before .before .before .before .before .before .before .loop .inv in let code = now (c .before .before .before .before .before .before .before .before .before .before .before .before .before .before .before .before .args .code) in let ws = now (c .before .before .before .before .before .before .before .before .before .before .before .before .before .before .before .before .args .labels) in let rs = now (c .before .before .before .before .before .before .before .before .before .before .before .before .before .before .before .before .args .records) in let f = steps-fall code ws rs (c .before .before .before .before .before .before .before .before .before .before .before .loop .self) (c .before .before .plain .result) _ _ (rw (c .before .before .before .before .before .before .charge .ensures) at (c .before .before .plain .ensures)) (omega (arith, c .before .before .before .before .before .before .before .if2 .left)) in (c .before .before .plain .ensures .ok, c .before .before .plain .kept .1 .1 .1 .1 .0 ∙ i .1, omega (arith, f, i .2), rest-step code ws rs (c .before .before .before .before .before .before .before .before .before .before .before .loop .self) (c .before .before .plain .result) _ _ (rw (c .before .before .before .before .before .before .charge .ensures) at (c .before .before .plain .ensures)) (live-true _ (sym (c .before .before .before .before .before .before .before .before .before .before .live .ensures) ∙ c .before .before .before .before .before .before .before .before .before .if1 .taken)) (omega (arith, c .before .before .before .before .before .before .before .if2 .left)) ∙ i .3)
 
 run-same-length-2 : (t : ℕ) → run-lts.Need-same-length-2 (
   live-reads.Asked,
@@ -1381,8 +1469,12 @@ run-same-length-2 : (t : ℕ) → run-lts.Need-same-length-2 (
   end-reads.Learnt,
   charge-reads.Asked,
   charge-reads.Learnt,
-  step-below t,
-  step.Post,
+  byte-at-reads.Asked,
+  byte-at-reads.Learnt,
+  block-below t,
+  block.Post,
+  plain-reads.Asked,
+  plain-reads.Learnt,
 ) (run-at t) run.Post run-Inv-loop run-μ-loop
 run-same-length-2 t c = c .before .before .loop .inv .1 ∙ sym (c .before .before .before .before .before .before .before .pre .1 .2 .store)
 
@@ -1393,83 +1485,17 @@ run-returns-2 : (t : ℕ) → run-lts.Need-returns-2 (
   end-reads.Learnt,
   charge-reads.Asked,
   charge-reads.Learnt,
-  step-below t,
-  step.Post,
+  byte-at-reads.Asked,
+  byte-at-reads.Learnt,
+  block-below t,
+  block.Post,
+  plain-reads.Asked,
+  plain-reads.Learnt,
 ) (run-at t) run.Post run-Inv-loop run-μ-loop
 run-returns-2 t c = let i = c .before .before .loop .inv in let code = now (c .before .before .before .before .before .before .before .args .code) in let ws = now (c .before .before .before .before .before .before .before .args .labels) in let rs = now (c .before .before .before .before .before .before .before .args .records) in rest-dead code ws rs (c .before .before .loop .self) (slots (c .before .before .loop .store)) (sym (c .before .live .ensures) ∙ c .if1 .left) ∙ i .3
 
-step-byte-at-requires : (t : ℕ) → step-lts.Need-byte-at-requires (
-  byte-at-reads.Asked,
-  byte-at-reads.Learnt,
-  block-below t,
-  block.Post,
-  plain-reads.Asked,
-  plain-reads.Learnt,
-) (step-at t) step.Post
-step-byte-at-requires t c κs = search needs
-
-step-block-requires : (t : ℕ) → step-lts.Need-block-requires (
-  byte-at-reads.Asked,
-  byte-at-reads.Learnt,
-  block-below t,
-  block.Post,
-  plain-reads.Asked,
-  plain-reads.Learnt,
-) (step-at t) step.Post
-step-block-requires t c κs = (omega (arith, c .before .before .before .before .before .before .before .pre .0), (c .before .before .before .before .before .before .before .pre .1 .0, c .before .before .before .before .before .before .before .pre .1 .1, c .before .before .before .before .before .before .before .pre .1 .2, sym (c .before .before .byte-at .ensures) ∙ c .before .if1 .taken))
-
-step-same-length : (t : ℕ) → step-lts.Need-same-length (
-  byte-at-reads.Asked,
-  byte-at-reads.Learnt,
-  block-below t,
-  block.Post,
-  plain-reads.Asked,
-  plain-reads.Learnt,
-) (step-at t) step.Post
-step-same-length t c = search needs
-
-step-returns : (t : ℕ) → step-lts.Need-returns (
-  byte-at-reads.Asked,
-  byte-at-reads.Learnt,
-  block-below t,
-  block.Post,
-  plain-reads.Asked,
-  plain-reads.Learnt,
-) (step-at t) step.Post
-step-returns t c = c .before .before .block .ensures
-
-step-plain-requires : (t : ℕ) → step-lts.Need-plain-requires (
-  byte-at-reads.Asked,
-  byte-at-reads.Learnt,
-  block-below t,
-  block.Post,
-  plain-reads.Asked,
-  plain-reads.Learnt,
-) (step-at t) step.Post
-step-plain-requires t c κs = (c .before .before .before .before .before .before .before .pre .1 .0, c .before .before .before .before .before .before .before .pre .1 .1, c .before .before .before .before .before .before .before .pre .1 .2, λ z. c .before .if1 .left (c .before .before .byte-at .ensures ∙ z))
-
-step-same-length-2 : (t : ℕ) → step-lts.Need-same-length-2 (
-  byte-at-reads.Asked,
-  byte-at-reads.Learnt,
-  block-below t,
-  block.Post,
-  plain-reads.Asked,
-  plain-reads.Learnt,
-) (step-at t) step.Post
-step-same-length-2 t c = search needs
-
-step-returns-2 : (t : ℕ) → step-lts.Need-returns-2 (
-  byte-at-reads.Asked,
-  byte-at-reads.Learnt,
-  block-below t,
-  block.Post,
-  plain-reads.Asked,
-  plain-reads.Learnt,
-) (step-at t) step.Post
-step-returns-2 t c = c .before .before .plain .ensures
-
-pub +block+run+step-spec : {M : Type 1} → statement M
-+block+run+step-spec = close μ-block μ-run μ-step (λ t. block-lts.spec (
+pub +block+run-spec : {M : Type 1} → statement M
++block+run-spec = close μ-block μ-run (λ t. block-lts.spec (
   u16-at-reads.Asked,
   u16-at-reads.Learnt,
   byte-at-reads.Asked,
@@ -1538,15 +1564,19 @@ pub +block+run+step-spec : {M : Type 1} → statement M
     (block-returns t)
     (block-same-length t)
     (block-returns-2 t))
-    (λ t. run-lts.spec (
+    λ t. run-lts.spec (
       live-reads.Asked,
       live-reads.Learnt,
       end-reads.Asked,
       end-reads.Learnt,
       charge-reads.Asked,
       charge-reads.Learnt,
-      step-below t,
-      step.Post,
+      byte-at-reads.Asked,
+      byte-at-reads.Learnt,
+      block-below t,
+      block.Post,
+      plain-reads.Asked,
+      plain-reads.Learnt,
     )
     (run-at t)
     run.Post
@@ -1558,25 +1588,12 @@ pub +block+run+step-spec : {M : Type 1} → statement M
     (run-same-length t)
     (run-returns t)
     (run-charge-requires t)
-    (run-step-requires t)
+    (run-byte-at-requires t)
+    (run-block-requires t)
     (run-loop-less t)
     (run-loop-again t)
+    (run-plain-requires t)
+    (run-loop-less-2 t)
+    (run-loop-again-2 t)
     (run-same-length-2 t)
-    (run-returns-2 t))
-    λ t. step-lts.spec (
-      byte-at-reads.Asked,
-      byte-at-reads.Learnt,
-      block-below t,
-      block.Post,
-      plain-reads.Asked,
-      plain-reads.Learnt,
-    )
-    (step-at t)
-    step.Post
-    (step-byte-at-requires t)
-    (step-block-requires t)
-    (step-same-length t)
-    (step-returns t)
-    (step-plain-requires t)
-    (step-same-length-2 t)
-    (step-returns-2 t)
+    (run-returns-2 t)
