@@ -22,10 +22,18 @@ pub struct Entry {
     pub file: Vec<u8>,
 }
 
+/// The files of the repository's examples.
+const EXAMPLES: [(&str, &[u8]); 3] = [
+    ("compare_presets", include_bytes!("../../../examples/compare_presets.script")),
+    ("demo_set", include_bytes!("../../../examples/demo_set.script")),
+    ("crash_count", include_bytes!("../../../examples/crash_count.script")),
+];
+
 /// All files, alike pairs side by side.
 pub fn entries() -> Vec<Entry> {
+    let examples = EXAMPLES.iter().map(|&(name, file)| Entry { name: format!("example {name}"), file: file.to_vec() });
     let hand_worked = cases::all().into_iter().map(|case| Entry { name: case.name, file: case.file });
-    let mut entries: Vec<Entry> = hand_worked.collect();
+    let mut entries: Vec<Entry> = examples.chain(hand_worked).collect();
     for (number, (_, pair)) in by_hand::pairs().into_iter().enumerate() {
         entries.extend(sides(&format!("by hand {number}"), pair));
     }
