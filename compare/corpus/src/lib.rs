@@ -31,7 +31,8 @@ const EXAMPLES: [(&str, &[u8]); 3] = [
 
 /// All files, alike pairs side by side.
 pub fn entries() -> Vec<Entry> {
-    let examples = EXAMPLES.iter().map(|&(name, file)| Entry { name: format!("example {name}"), file: file.to_vec() });
+    let examples =
+        EXAMPLES.iter().map(|&(name, file)| Entry { name: format!("example {name}"), file: file.to_vec() });
     let hand_worked = cases::all().into_iter().map(|case| Entry { name: case.name, file: case.file });
     let mut entries: Vec<Entry> = examples.chain(hand_worked).collect();
     for (number, (_, pair)) in by_hand::pairs().into_iter().enumerate() {

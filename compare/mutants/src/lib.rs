@@ -3,6 +3,7 @@
 
 pub mod by_hand;
 pub mod list;
+pub mod loading;
 pub mod search;
 pub mod wrong;
 
