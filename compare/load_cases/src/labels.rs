@@ -32,7 +32,8 @@ const WELL_FORMED: [&[u8]; 11] = [
     &[1, 2, 4, 8, 16, 32],
 ];
 
-/// Lists that break one rule or more, and the first mask that does.
+/// Each with what is wrong with it; a subset stands before or behind the mask that
+/// it is a subset of.
 const MALFORMED: [(&[u8], &str); 26] = [
     (&[64], "over 63"),
     (&[65], "over 63"),
@@ -59,7 +60,7 @@ const MALFORMED: [(&[u8], &str); 26] = [
     (&[1, 2, 3], "two subsets before"),
     (&[3, 1], "subset behind"),
     (&[1, 0], "subset behind"),
-    (&[6, 9, 1], "subset two behind"),
+    (&[3, 12, 1], "subset two behind"),
 ];
 
 fn masks() -> Vec<Case> {

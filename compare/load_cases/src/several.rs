@@ -41,8 +41,7 @@ fn pairs() -> Vec<Case> {
         .collect()
 }
 
-/// Reason 1 and a later one. A file of 65,536 bytes can have right offsets; then
-/// its labels can't end at the records.
+/// Reason 1 and a later one; for 1 and 4 see the sizes.
 fn with_size() -> Vec<Case> {
     let resized = |reasons: &[u8], length: usize| {
         let mut file = wrong_for(reasons);

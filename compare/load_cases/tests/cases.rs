@@ -4,7 +4,8 @@
 use generator::invalid;
 use generator::random::Random;
 use load_cases::{answer, cases, input, output, Answer};
-use mutants::loading::{wrong, PAPER, WRONG};
+use mutants::loader::PAPER;
+use mutants::wrong_loaders;
 use std::collections::HashSet;
 
 /// The program in the gate reads this much of its input.
@@ -75,17 +76,18 @@ fn the_right_loader_agrees_with_the_reference() {
 #[test]
 fn every_wrong_loader_gives_another_answer() {
     let cases = cases();
-    for mutant in WRONG {
-        let loader = wrong(mutant);
-        let told = cases.iter().any(|case| Answer::from(loader.refusal(&case.file)) != case.demanded);
-        assert!(told, "{mutant:?} passes for the right one");
+    for wrong in wrong_loaders::all() {
+        let told = cases.iter().any(|case| Answer::from(wrong.loader.refusal(&case.file)) != case.demanded);
+        assert!(told, "check {}, {}: passes for the right one", wrong.check, wrong.says);
     }
 }
 
 #[test]
 fn every_check_has_wrong_loaders() {
+    let wrong = wrong_loaders::all();
     for check in 1..=7 {
-        let count = WRONG.iter().filter(|(about, _, _)| *about == check).count();
+        let count = wrong.iter().filter(|wrong| wrong.check == check).count();
+        println!("{count} for check {check}");
         assert!(count >= 4, "{count} for check {check}");
     }
 }
