@@ -55,7 +55,7 @@ impl fmt::Display for Answer {
 pub struct Case {
     /// What is tried.
     pub name: String,
-    /// What the paper demands, worked out by hand.
+    /// What the paper demands, said without asking the reference.
     pub demanded: Answer,
     pub file: Vec<u8>,
 }
