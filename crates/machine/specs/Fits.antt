@@ -9,6 +9,7 @@ use borrow.Author.Tests.{leb-true, ltb-true, eqb-false}
 use Rattle.labels.specs.declared.Label.{Label}
 use Rattle.labels.specs.Order.{flows, join}
 use Rattle.model.specs.State.{Store, at}
+use Rattle.model.proofs.Tests.{cond-one}
 use Rattle.model.specs.Operands.{arity}
 use Rattle.model.specs.declared.Kind.{Kind}
 use Rattle.model.specs.declared.Kind.the-variants.{Sealed, Reference}
@@ -28,7 +29,6 @@ use Rattle.effects.specs.declared.Effect.{Effect}
 use Rattle.effects.specs.declared.Effect.the-variants.{Fault, Drop, Push as Gives, Get as Reads, Set as Keeps, Jump as Goes, Try as Frames, Done as Unframes, End as Stops, Raise as Rises, Lower as Falls, Make as Made, Open as Opened, Throw as Thrown}
 use Rattle.effects.specs.declared.Account.{Account as Lent}
 use Rattle.effects.specs.Served.{Served, served, targetOf, labelOf, openOf, yieldOf, writeOf, serve}
-use Rattle.machine.specs.Laws.{cond-both}
 
 -- k operands are there, g values have room, f frames are free, d frames are held, m places are left
 pub record Fits (top newest next limit k g f d m : ℕ) : Type 0 where
@@ -133,7 +133,7 @@ module _ (top newest next limit : ℕ) (held : newest ≤ 8) (left : next ≤ li
   operate-fits Less p q = all-numbers (F 2) 0 (o .top) (o .second) _ (λ a b. plain 2 1 p q)
   operate-fits Same p q = all-numbers (F 2) 0 (o .top) (o .second) _ (λ a b. plain 2 1 p q)
   operate-fits (Jump t) p q = plain 0 0 p q
-  operate-fits (Ifz t) p q = all-number (F 1) 0 (o .top) _ (λ n. cond-both (F 1) (eqb n 0) (Jumps t) Drops (λ _. plain 1 0 p q) (λ _. plain 1 0 p q))
+  operate-fits (Ifz t) p q = all-number (F 1) 0 (o .top) _ (λ n. cond-one (F 1) (eqb n 0) {x = Jumps t} {y = Drops} (λ _. plain 1 0 p q) (λ _. plain 1 0 p q))
   operate-fits Cur p q = plain 0 1 p q
   operate-fits Clr p q = plain 0 1 p q
   operate-fits Raise p q = all-label (F 1) 0 (o .top) _ (λ l. plain 1 0 p q)
@@ -148,8 +148,8 @@ module _ (top newest next limit : ℕ) (held : newest ≤ 8) (left : next ≤ li
   operate-fits Read p q = all-handle (F 1) 0 (o .top) _ (λ t x. all-reference (F 1) 0 t (Opens x) (plain 1 1 p q))
   operate-fits Write p q = all-handle (F 2) 0 (o .top) _ (λ t x. all-reference (F 2) 0 t (Writes x (o .second)) (plain 2 0 p q))
   operate-fits (Block t n k) p q = 0
-  operate-fits (Try h) p q = cond-both (F 0) (ltb (o .frames) 8) (Tries h) (Faults 29) (λ c. record { low = p; room = q; free = omega (arith, ltb-true (o .frames) 8 c); held = omega arith; places = omega arith }) (λ _. 0)
-  operate-fits Done p q = cond-both (F 0) (eqb (o .frames) 0) (Faults 29) Leaves (λ _. 0) (λ c. record { low = p; room = q; free = zero-le; held = some (eqb-false (o .frames) 0 c); places = omega arith }) where
+  operate-fits (Try h) p q = cond-one (F 0) (ltb (o .frames) 8) {x = Tries h} {y = Faults 29} (λ c. record { low = p; room = q; free = omega (arith, ltb-true (o .frames) 8 c); held = omega arith; places = omega arith }) (λ _. 0)
+  operate-fits Done p q = cond-one (F 0) (eqb (o .frames) 0) {x = Faults 29} {y = Leaves} (λ _. 0) (λ c. record { low = p; room = q; free = zero-le; held = some (eqb-false (o .frames) 0 c); places = omega arith }) where
     some : (o .frames ≡ 0 → ⊥) → 1 + newest ≤ 8
     some z = omega arith
   operate-fits Throw p q = all-number (F 1) 0 (o .top) _ (λ n. 0)
@@ -158,8 +158,8 @@ module _ (top newest next limit : ℕ) (held : newest ≤ 8) (left : next ≤ li
   pub plan-fits : (i : Instr) → top + o .height ≡ 32 → F (arity i .takes) (planOf i (arity i) o ws rs)
   unfolding planOf
   plan-fits i h =
-      cond-both (F (arity i .takes)) (leb (arity i .takes) (o .height)) _ (Faults 20)
-      (λ a. cond-both (F (arity i .takes)) (leb (o .height - arity i .takes + arity i .leaves) 32) (operateOf i o ws rs) (Faults 21)
+      cond-one (F (arity i .takes)) (leb (arity i .takes) (o .height)) {y = Faults 20}
+      (λ a. cond-one (F (arity i .takes)) (leb (o .height - arity i .takes + arity i .leaves) 32) {x = operateOf i o ws rs} {y = Faults 21}
       (λ b. operate-fits i (omega (arith, leb-true (arity i .takes) (o .height) a)) (omega (arith, leb-true (arity i .takes) (o .height) a, leb-true (o .height - arity i .takes + arity i .leaves) 32 b)))
       (λ _. 0))
       (λ _. 0)
@@ -176,14 +176,14 @@ module _ (top newest k : ℕ) (a : Lent) (σ : Store) where
 
   open-fits : (s : Slot) → Fits top newest (a .next) (a .limit) k 1 0 0 0 → G (openOf (a .label) (a .clearance) s)
   open-fits Empty h = 0
-  open-fits (Full r) h = cond-both G (flows (join (a .label) (r .label)) (a .clearance)) (yieldOf (r .label) (r .contents)) (Fault 24 0) (λ _. yields (r .contents)) (λ _. 0) where
+  open-fits (Full r) h = cond-one G (flows (join (a .label) (r .label)) (a .clearance)) {x = yieldOf (r .label) (r .contents)} {y = Fault 24 0} (λ _. yields (r .contents)) (λ _. 0) where
     yields : (x : Contents) → G (yieldOf (r .label) x)
     yields (Holds d) = h
     yields (Faulty f n) = 0
 
   write-fits : (p : ℕ) (d : Datum) (s : Slot) → Fits top newest (a .next) (a .limit) k 0 0 0 0 → G (writeOf (a .label) (a .clearance) σ p d s .effect)
   write-fits p d Empty h = 0
-  write-fits p d (Full r) h = cond-both (λ (x : Served). G (x .effect)) (eqb (targetOf (a .label) (a .clearance) (r .label)) 0) _ _ (λ _. h) (λ _. 0)
+  write-fits p d (Full r) h = cond-one (λ (x : Served). G (x .effect)) (eqb (targetOf (a .label) (a .clearance) (r .label)) 0) (λ _. h) (λ _. 0)
 
   pub serve-fits : (m : Plan) → FitsPlan top newest (a .next) (a .limit) k m → G (serve a σ m .effect)
   unfolding serve
@@ -197,13 +197,13 @@ module _ (top newest k : ℕ) (a : Lent) (σ : Store) where
   serve-fits Leaves h = h
   serve-fits (Ends d) h = h
   serve-fits (Throws n) h = 0
-  serve-fits (Raises l) h = cond-both G (flows (join (a .label) l) (a .clearance)) (Rises l) (Fault 24 0) (λ _. h) (λ _. 0)
-  serve-fits (Lowers l) h = cond-both G (flows (a .label) l) _ (Fault 25 0) (λ _. cond-both G (flows l (a .clearance)) (Falls l) (Fault 25 0) (λ _. h) (λ _. 0)) (λ _. 0)
+  serve-fits (Raises l) h = cond-one G (flows (join (a .label) l) (a .clearance)) {x = Rises l} {y = Fault 24 0} (λ _. h) (λ _. 0)
+  serve-fits (Lowers l) h = cond-one G (flows (a .label) l) {y = Fault 25 0} (λ _. cond-one G (flows l (a .clearance)) {x = Falls l} {y = Fault 25 0} (λ _. h) (λ _. 0)) (λ _. 0)
   serve-fits (LabelOf p) h = label-fits (at σ p) h
   serve-fits (Opens p) h = open-fits (at σ p) h
   serve-fits (Makes t l d) h =
-      cond-both (λ (x : Served). G (x .effect)) (eqb (targetOf (a .label) (a .clearance) l) 0) _ _
-      (λ _. cond-both (λ (x : Served). G (x .effect)) (ltb (a .next) (a .limit)) _ _
+      cond-one (λ (x : Served). G (x .effect)) (eqb (targetOf (a .label) (a .clearance) l) 0)
+      (λ _. cond-one (λ (x : Served). G (x .effect)) (ltb (a .next) (a .limit))
       (λ e. record { low = h .low; room = h .room; free = h .free; held = h .held; places = omega (arith, ltb-true (a .next) (a .limit) e) })
       (λ _. 0))
       (λ _. 0)

@@ -19,11 +19,14 @@ use Rattle.model.specs.declared.Instr.{Instr}
 use Rattle.model.specs.declared.Instr.the-variants.{End, Push, Lab, Get, Set, Pop, Add, Sub, Less, Same, Jump, Ifz, Cur, Clr, Raise, Lower, Flows, Join, Meet, Seal, Open, Labof, New, Read, Write, Block, Try, Done, Throw, Input}
 use Rattle.model.specs.declared.Ending.{Ending}
 use Rattle.model.specs.declared.Ending.the-variants.{Spent}
-use Rattle.model.specs.State.{Control, Account, Store, Outcome, Runner, number, value, push, withSteps, withNext}
+use Rattle.model.specs.State.{Control, Account, Store, Program, Outcome, Runner, number, value, push, withSteps, withNext}
 use Rattle.model.specs.Decoding.{byte, u16, instrs, operandBytes, size, fetch, after}
 use Rattle.model.specs.Operands.{arity, plan}
 use Rattle.model.specs.Effects.{Next, go, stop, fail, holding, contentsOf, outcome, sealOutcome, bodyControl, bodyAccount}
 use Rattle.model.specs.Running.{perform, step, resume, runs, startControl, startAccount}
+use Rattle.model.proofs.Effects.{accountOf}
+use Rattle.model.proofs.Fuel.{step-spends, runs-spent, runs-next}
+use Rattle.model.proofs.Tests.{cond-one}
 use Rattle.store.specs.Slots.{words}
 use Rattle.decode.specs.declared.Decoded.{Decoded}
 use Rattle.operands.specs.declared.Operands.{Operands}
@@ -41,7 +44,6 @@ use Rattle.machine.specs.declared.Status.{Status}
 use Rattle.machine.specs.declared.Status.the-variants.{Running, Ended}
 use Rattle.machine.specs.declared.State.{State}
 use Rattle.machine.specs.Stack.{drop-none}
-use Rattle.machine.specs.Laws.{cond-both, accountOf, step-spends, runs-spent, runs-step}
 use Rattle.machine.specs.State.{Ok, Live, control, account, nextOn, nextOf, endingOf, outcomeOf, isLive, Does, Ran, popped, pushed, charged, taken, jumped, bodied, next-live, ok-popped, ok-pushed, control-popped, control-pushed, stack-length, frames-length, presentOf, operand-at, operands-are, no-frame}
 use Rattle.machine.specs.Fits.{FitsEffect, plan-fits, serve-fits}
 
@@ -117,110 +119,14 @@ after-block : (code : List ℕ) (pc : ℕ) → byte code pc ≡ 25 → after cod
 unfolding after size operandBytes
 after-block code pc e = rw (lt-ltb pc (length code) (block-inside code pc e), e)
 
--- ── one instruction that is no BLOCK ──
-
-module _ (code ws rs : List ℕ) (s : State) (R : Runner) (σ : Store) where
-  pub step-meets : (s1 : State) (d : Decoded) (ar : Arity) (o : Operands) (p : Plan) (e : Effect) (τ : Store)
-      → s1 ≡ jumped (d .after) s → d ≡ record { instr = fetch code (s .pc); after = after code (s .pc) } → isBlock (fetch code (s .pc)) ≡ false
-      → ar ≡ arity (d .instr) → o ≡ operandsOf (control s1) (account s1) → p ≡ planOf (d .instr) ar o ws rs → served e τ ≡ serve (lent (account s1)) σ p
-      → settle (ar .takes) (control s1) (account s1) τ e ≡ step (program code ws rs) R (control s) (account s) σ
-  unfolding step program
-  step-meets s1 d ar o p e τ es ed nb ea eo ep ev =
-      let c : Control = control s1 in
-      let a : Account = account s1 in
-      let n : isBlock (d .instr) ≡ false = ap (λ (x : Decoded). isBlock (x .instr)) ed ∙ nb in
-      let st : stands (ar .takes) c p ≡ plan (program code ws rs) a c (d .instr) = rw (ep, eo, ea) (plan-stands code ws rs a c (d .instr) n) in
-      ap (settles (ar .takes) c a) ev
-      ∙ serve-settles code ws rs R (ar .takes) c a σ p
-      ∙ ap (perform (program code ws rs) R c a σ) st
-      ∙ ap (λ (x : State). perform (program code ws rs) R (control x) (account x) σ (plan (program code ws rs) (account x) (control x) (d .instr))) es
-      ∙ ap (λ (x : Decoded). perform (program code ws rs) R (control (jumped (x .after) s)) (account s) σ (plan (program code ws rs) (account s) (control (jumped (x .after) s)) (x .instr))) ed
-
-pub step-fits : (ws rs : List ℕ) (σ τ : Store) (s : State) (i : Instr) (ar : Arity) (o : Operands) (p : Plan) (e : Effect) → Ok s
-    → ar ≡ arity i → o ≡ operandsOf (control s) (account s) → p ≡ planOf i ar o ws rs → served e τ ≡ serve (lent (account s)) σ p
-    → FitsEffect (s .top) (s .newest) (s .next) (s .limit) (ar .takes) e
-step-fits ws rs σ τ s i ar o p e ok ea eo ep ev =
-    rw (ap (λ (x : Served). x .effect) ev)
-    (serve-fits (s .top) (s .newest) (ar .takes) (lent (account s)) σ p
-    (rw (ep, ea, eo) (plan-fits (s .top) (s .newest) (s .next) (s .limit) (ok .frames .index) (ok .places .used) ws rs (operandsOf (control s) (account s)) (frames-length s ok) i (stack-length s ok))))
+-- ── BLOCK ──
 
 pub first-found : (s : State) (f : ℕ) (y : Datum) → Ok s → f ≡ min (s .top) 31 → y ≡ presentOf (s .top) 32 (getD (s .stack) f (number 0)) → y ≡ first (control s)
 first-found s f y o ef ey = rw ef at ey ∙ (rw (add-zero (s .top)) at (operand-at s 0 o))
 
--- the operands as the code reads them
-pub operands-found : (s : State) (f g : ℕ) (y x : Datum) → Ok s → f ≡ min (s .top) 31 → g ≡ min (s .top + 1) 31
-    → y ≡ presentOf (s .top) 32 (getD (s .stack) f (number 0)) → x ≡ presentOf (s .top + 1) 32 (getD (s .stack) g (number 0))
-    → record { height = 32 - s .top; top = y; second = x; frames = 8 - s .newest; label = s .label; clearance = s .clearance } ≡ operandsOf (control s) (account s)
-operands-found s f g y x o ef eg ey ex =
-    operands-are s y x o (first-found s f y o ef ey) (rw eg at ex ∙ operand-at s 1 o)
-
-pub ran-settled : (r : State) (k : ℕ) (c : Control) (a : Account) (τ : Store) (e f : Effect) (n : Next)
-    → Does r (λ σ. settle k c a σ f) → e ≡ f → settle k c a τ e ≡ n → Ran r τ n
-ran-settled r k c a τ e f n d q m = record { ok = d .ok; eq = d .eq τ ∙ ap (settle k c a τ) (sym q) ∙ m }
-
--- what the code finds for an instruction that is no BLOCK: the effect has what it takes, and stands for the step
-pub record Found (code ws rs : List ℕ) (s : State) (σ τ : Store) (t k : ℕ) (e : Effect) : Type 0 where
-  pub fits : FitsEffect (s .top) (s .newest) (s .next) (s .limit) k e
-  pub meets : settle k (control (jumped t s)) (account s) τ e ≡ stepOf code ws rs s σ
-
-pub found : (code ws rs : List ℕ) (s : State) (σ τ : Store) (d : Decoded) (ar : Arity) (f g : ℕ) (y x : Datum) (p : Plan) (e : Effect)
-    → Ok s → (byte code (s .pc) ≡ 25 → ⊥) → d ≡ record { instr = fetch code (s .pc); after = after code (s .pc) } → ar ≡ arity (d .instr)
-    → f ≡ min (s .top) 31 → g ≡ min (s .top + 1) 31
-    → y ≡ presentOf (s .top) 32 (getD (s .stack) f (number 0)) → x ≡ presentOf (s .top + 1) 32 (getD (s .stack) g (number 0))
-    → p ≡ planOf (d .instr) ar (record { height = 32 - s .top; top = y; second = x; frames = 8 - s .newest; label = s .label; clearance = s .clearance }) ws rs
-    → served e τ ≡ serve (lent (account s)) σ p
-    → Found code ws rs s σ τ (d .after) (ar .takes) e
-found code ws rs s σ τ d ar f g y x p e ok nb ed ea ef eg ey ex ep ev =
-    let s1 : State = jumped (d .after) s in
-    let o = operands-found s1 f g y x ok ef eg ey ex in
-    record {
-      fits = step-fits ws rs σ τ s1 (d .instr) ar (record { height = 32 - s .top; top = y; second = x; frames = 8 - s .newest; label = s .label; clearance = s .clearance }) p e ok ea o ep ev;
-      meets = step-meets code ws rs s (runs (program code ws rs)) σ s1 d ar (record { height = 32 - s .top; top = y; second = x; frames = 8 - s .newest; label = s .label; clearance = s .clearance }) p e τ refl ed (not-block code (s .pc) nb) ea o ep ev;
-    }
-
-pub found-ran : (code ws rs : List ℕ) (s r : State) (σ τ : Store) (t k : ℕ) (e f : Effect) → Found code ws rs s σ τ t k e → e ≡ f
-    → Does r (λ σ. settle k (control (jumped t s)) (account s) σ f) → Ran r τ (stepOf code ws rs s σ)
-found-ran code ws rs s r σ τ t k e f w q d = ran-settled r k (control (jumped t s)) (account s) τ e f (stepOf code ws rs s σ) d q (w .meets)
-
--- no instruction leaves more than two values
-pub leaves-few : (i : Instr) → arity i .leaves ≤ 2
-unfolding arity
-leaves-few End = omega arith
-leaves-few (Push n) = omega arith
-leaves-few (Lab i) = omega arith
-leaves-few (Get i) = omega arith
-leaves-few (Set i) = omega arith
-leaves-few Pop = omega arith
-leaves-few Add = omega arith
-leaves-few Sub = omega arith
-leaves-few Less = omega arith
-leaves-few Same = omega arith
-leaves-few (Jump t) = omega arith
-leaves-few (Ifz t) = omega arith
-leaves-few Cur = omega arith
-leaves-few Clr = omega arith
-leaves-few Raise = omega arith
-leaves-few Lower = omega arith
-leaves-few Flows = omega arith
-leaves-few Join = omega arith
-leaves-few Meet = omega arith
-leaves-few Seal = omega arith
-leaves-few Open = omega arith
-leaves-few Labof = omega arith
-leaves-few New = omega arith
-leaves-few Read = omega arith
-leaves-few Write = omega arith
-leaves-few (Block t n k) = omega arith
-leaves-few (Try h) = omega arith
-leaves-few Done = omega arith
-leaves-few Throw = omega arith
-leaves-few (Input i) = omega arith
-
--- ── BLOCK ──
-
 pub body-clear : (a : Account) (h : ℕ) (y : Datum) (n j : ℕ) (b : Label) → enterOf (lent a) h y n j ≡ Body b → Clear a n j
 unfolding enterOf
-body-clear a h y n j b = cond-both Q (eqb h 0) (Barred 20) (boundOf (lent a) y n j) (λ _ e. no 20 e) (λ _. bound y) where
+body-clear a h y n j b = cond-one Q (eqb h 0) {x = Barred 20} {y = boundOf (lent a) y n j} (λ _ e. no 20 e) (λ _. bound y) where
   Q : Entry → Type 0
   Q x = x ≡ Body b → Clear a n j
 
@@ -230,10 +136,10 @@ body-clear a h y n j b = cond-both Q (eqb h 0) (Barred 20) (boundOf (lent a) y n
   bound : (y : Datum) → Q (boundOf (lent a) y n j)
   bound (Number m) e = no 22 e
   bound (Labelled l) e =
-      cond-both Q (eqb (targetOf (a .label) (a .clearance) l) 0) _ (Barred (targetOf (a .label) (a .clearance) l))
-      (λ _. cond-both Q (ltb (a .depth) 8) _ (Barred 28)
-      (λ d. cond-both Q (leb n (a .steps)) _ (Barred 27)
-      (λ t. cond-both Q (leb (a .next + 1 + j) (a .limit)) (Body l) (Barred 26)
+      cond-one Q (eqb (targetOf (a .label) (a .clearance) l) 0) {y = Barred (targetOf (a .label) (a .clearance) l)}
+      (λ _. cond-one Q (ltb (a .depth) 8) {y = Barred 28}
+      (λ d. cond-one Q (leb n (a .steps)) {y = Barred 27}
+      (λ t. cond-one Q (leb (a .next + 1 + j) (a .limit)) {x = Body l} {y = Barred 26}
       (λ r z. record { deep = ltb-true (a .depth) 8 d; time = leb-true n (a .steps) t; room = leb-true (a .next + 1 + j) (a .limit) r })
       (λ _ z. no 26 z))
       (λ _ z. no 27 z))
@@ -330,9 +236,15 @@ unfolding resume
 out-dead R Running c a σ h = absurd (let z : _≡_ {A = ℕ} 0 1 = cc in omega arith)
 out-dead R (Ended e) c a σ h = refl
 
+pub runs-step : (P : Program) (c : Control) (a : Account) (σ : Store) → 0 < a .steps → runs P c a σ ≡ resume (runs P) (step P (runs P) c (withSteps (a .steps - 1) a) σ)
+runs-step P c a σ h = runs-next P c a σ (a .steps - 1) (omega arith)
+
 next-account : (e : Status) (c : Control) (a : Account) (σ : Store) → accountOf (nextOn e c a σ) ≡ a
 next-account Running c a σ = refl
 next-account (Ended e) c a σ = refl
+
+pub steps-of : (r : State) (τ : Store) (x : Next) → nextOf r τ ≡ x → r .steps ≡ accountOf x .steps
+steps-of r τ x e = ap (λ (a : Account). a .steps) (sym (next-account (r .progress .status) (control r) (account r) τ)) ∙ ap (λ (y : Next). accountOf y .steps) e
 
 -- the run that a state is in
 abbrev pub rest : List ℕ → List ℕ → List ℕ → State → Store → Outcome
@@ -347,7 +259,7 @@ module _ (code ws rs : List ℕ) (s : State) (σ : Store) where
   rest-dead h = out-dead (runs (program code ws rs)) (s .progress .status) (control s) (account s) σ h
 
   pub rest-spent : Live s → s .steps ≡ 0 → record { ending = Spent; account = account s; store = σ } ≡ rest code ws rs s σ
-  rest-spent l z = runs-spent (program code ws rs) (control s) (account s) σ z ∙ sym (rest-live l)
+  rest-spent l z = sym (runs-spent (program code ws rs) (control s) (account s) σ z) ∙ sym (rest-live l)
 
 module _ (code ws rs : List ℕ) (s r : State) (σ τ : Store) (h : Ran r τ (step (program code ws rs) (runs (program code ws rs)) (control (charged 1 s)) (account (charged 1 s)) σ)) where
   pub rest-step : Live s → 0 < s .steps → rest code ws rs r τ ≡ rest code ws rs s σ
@@ -356,7 +268,7 @@ module _ (code ws rs : List ℕ) (s r : State) (σ τ : Store) (h : Ran r τ (st
   pub steps-fall : 0 < s .steps → r .steps < s .steps
   steps-fall p =
       let N = step (program code ws rs) (runs (program code ws rs)) (control (charged 1 s)) (account (charged 1 s)) σ in
-      let e : r .steps ≡ accountOf N .steps = ap (λ (a : Account). a .steps) (sym (next-account (r .progress .status) (control r) (account r) τ)) ∙ ap (λ (x : Next). accountOf x .steps) (h .eq) in
+      let e : r .steps ≡ accountOf N .steps = steps-of r τ N (h .eq) in
       omega (arith, e, step-spends (program code ws rs) (runs (program code ws rs)) (control (charged 1 s)) (account (charged 1 s)) σ)
 
 -- ── the start ──

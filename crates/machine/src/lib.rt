@@ -20,8 +20,10 @@ ghost use Rattle.model.specs.Effects.{fail};
 ghost use Rattle.model.specs.Running.{runs, startControl, startAccount};
 ghost use Rattle.operands.specs.Program.{program, count};
 ghost use Rattle.store.specs.Slots.{words, slots};
-ghost use Rattle.machine.specs.State.{Ok, Live, Does, Ran, control, account, endingOf, outcomeOf, isLive, presentOf, popped, pushed, raised, lowered, charged, taken, jumped, framed, unframed, ended, bodied};
+ghost use Rattle.effects.specs.Bridge.{lent};
+ghost use Rattle.machine.specs.State.{Ok, Live, Does, Ran, control, account, nextOf, endingOf, outcomeOf, isLive, presentOf, popped, pushed, raised, lowered, charged, taken, jumped, framed, unframed, ended, bodied};
 ghost use Rattle.machine.specs.Steps.{Sizes, Started, stepOf, runOf};
+ghost use Rattle.machine.specs.Turns.{Decided, seen, readyOf, turns};
 
 pub enum Status {
     Running,
@@ -53,6 +55,13 @@ pub struct State {
     pub progress: Progress,
 }
 
+// An instruction decided: the place of the next, how many operands it takes, and what it does.
+pub struct Decision {
+    pub after: usize,
+    pub takes: usize,
+    pub effect: Effect,
+}
+
 // The opcode of BLOCK, 19 in hexadecimal.
 const BLOCK: u8 = 25;
 
@@ -81,6 +90,31 @@ fn present(i: usize, n: usize, v: Value) -> Datum
         return v.datum;
     }
     Datum::Number(0)
+}
+
+// What the instruction at pc comes to, decided from small values: the run state is not passed on, so it is not copied.
+fn decide(
+    code: &[u8],
+    pc: usize,
+    o: Operands,
+    account: Account,
+    labels: &[u64],
+    records: &[u8],
+    store: &mut [u64],
+) -> Decision
+    requires { ⌜ Sizes (now code) (now labels) (now store) × (o .height ≤ 32) ⌝ }
+    ensures { λ r. ⌜ Decided r (now (code .entry)) (now (labels .entry)) (now (records .entry)) pc o account (slots (now (store .entry))) (slots (now (store .exit))) ⌝ }
+{
+    let d = decode::decode(code, pc);
+    let i = d.instr;
+    let a = decode::arity(i);
+    let p = operands::plan_of(i, a, o, labels, records);
+    let effect = effects::effect_of(p, account, store);
+    Decision {
+        after: d.after,
+        takes: a.takes,
+        effect,
+    }
 }
 
 // How a run ended.
@@ -201,6 +235,53 @@ impl State {
         }
     }
 
+    // What an instruction is checked against, y and x being read for the top operand and the one below.
+    fn operands(self, y: Value, x: Value) -> Operands
+        requires { ⌜ (self .top ≤ 32) × (self .newest ≤ 8) ⌝ }
+        ensures { λ r. ⌜ r ≡ seen self y x ⌝ }
+    {
+        let top = self.top;
+        let label = self.label;
+        let clearance = self.clearance;
+        Operands {
+            height: 32 - top,
+            top: present(top, 32, y),
+            second: present(top + 1, 32, x),
+            frames: 8 - self.newest,
+            label,
+            clearance,
+        }
+    }
+
+    fn account(self) -> Account
+        ensures { λ r. ⌜ r ≡ lent (account self) ⌝ }
+    {
+        let label = self.label;
+        let clearance = self.clearance;
+        Account {
+            label,
+            clearance,
+            steps: self.steps,
+            next: self.next,
+            limit: self.limit,
+            depth: self.depth,
+        }
+    }
+
+    // Whether the run goes on with an instruction that is no BLOCK.
+    fn ready(self, code: &[u8]) -> bool
+        ensures { λ r. ⌜ r ≡ readyOf (now (code .entry)) self ⌝ }
+    {
+        if !self.live() {
+            return false;
+        }
+        if self.steps == 0 {
+            return false;
+        }
+        let pc = self.pc;
+        decode::byte_at(code, pc) != BLOCK
+    }
+
     // Sends a fault to the newest frame's handler, or ends the run with it.
     fn fail(mut self, code: u32, number: u32) -> State
         requires { ⌜ Ok self × Live self ⌝ }
@@ -236,107 +317,105 @@ impl State {
         self
     }
 
-    // Any instruction but BLOCK.
-    fn plain(mut self, code: &[u8], labels: &[u64], records: &[u8], store: &mut [u64]) -> State
-        requires { ⌜ Ok self × Live self × Sizes (now code) (now labels) (now store) × (byte (now code) (self .pc) ≡ 25 → ⊥) ⌝ }
-        ensures { λ r. ⌜ Ran r (slots (now (store .exit))) (stepOf (now (code .entry)) (now (labels .entry)) (now (records .entry)) self (slots (now (store .entry)))) ⌝ }
+    // Up to `count` instructions, as far as the next BLOCK, the last step or the run's end. The state stays in place: passed
+    // to a method that stores at an index known at run time, it is copied.
+    fn advance(
+        mut self,
+        code: &[u8],
+        labels: &[u64],
+        records: &[u8],
+        store: &mut [u64],
+        count: usize,
+    ) -> State
+        requires { ⌜ Ok self × Sizes (now code) (now labels) (now store) ⌝ }
+        ensures { λ r. ⌜ Ran r (slots (now (store .exit))) (turns (now (code .entry)) (now (labels .entry)) (now (records .entry)) count (nextOf self (slots (now (store .entry))))) ⌝ }
     {
-        let pc = self.pc;
-        let d = decode::decode(code, pc);
-        let i = d.instr;
-        let after = d.after;
-        self.pc = after;
-        let a = decode::arity(i);
-        let top = self.top;
-        let under = top + 1;
-        let first = least(top, 31);
-        let second = least(under, 31);
-        let y = self.stack[first];
-        let x = self.stack[second];
-        let label = self.label;
-        let clearance = self.clearance;
-        let o = Operands {
-            height: 32 - top,
-            top: present(top, 32, y),
-            second: present(under, 32, x),
-            frames: 8 - self.newest,
-            label,
-            clearance,
-        };
-        let p = operands::plan_of(i, a, o, labels, records);
-        let lent = Account {
-            label,
-            clearance,
-            steps: self.steps,
-            next: self.next,
-            limit: self.limit,
-            depth: self.depth,
-        };
-        let e = effects::effect_of(p, lent, store);
-        let k = a.takes;
-        match e {
-            Effect::Fault(code, n) => {
-                return self.fail(code, n);
+        let mut todo = count;
+        while 0 < todo {
+            if !self.ready(code) {
+                return self;
             }
-            Effect::Throw(l, code, n) => {
-                return self.raise(l).fail(code, n);
-            }
-            Effect::Drop => {
-                self = self.pop(k);
-            }
-            Effect::Push(d) => {
-                let at = top + k - 1;
-                self.stack[at] = Value { datum: d };
-                self.top = at;
-            }
-            Effect::Get(i) => {
-                let from = least(i, 15);
-                let v = self.locals[from];
-                let d = present(i, 16, v);
-                let at = top + k - 1;
-                self.stack[at] = Value { datum: d };
-                self.top = at;
-            }
-            Effect::Set(i, d) => {
-                self = self.pop(k);
-                if i < 16 {
-                    self.locals[i] = Value { datum: d };
+            todo = todo - 1;
+            self = self.charge(1);
+            let pc = self.pc;
+            let top = self.top;
+            let first = least(top, 31);
+            let second = least(top + 1, 31);
+            let y = self.stack[first];
+            let x = self.stack[second];
+            let o = self.operands(y, x);
+            let account = self.account();
+            let d = decide(code, pc, o, account, labels, records, store);
+            let after = d.after;
+            let k = d.takes;
+            let e = d.effect;
+            self.pc = after;
+            match e {
+                Effect::Fault(code, n) => {
+                    self = self.fail(code, n);
                 }
-            }
-            Effect::Jump(t) => {
-                self = self.pop(k);
-                self = self.jump(t);
-            }
-            Effect::Try(h) => {
-                return self.pop(k).enter_try(h);
-            }
-            Effect::Done => {
-                self = self.pop(k);
-                self = self.leave_try();
-            }
-            Effect::End(d) => {
-                self = self.pop(k);
-                self = self.end(Ending::Result(d));
-            }
-            Effect::Raise(l) => {
-                self = self.pop(k);
-                self = self.raise(l);
-            }
-            Effect::Lower(l) => {
-                self = self.pop(k);
-                self = self.lower(l);
-            }
-            Effect::Make(d) => {
-                self = self.take(1);
-                let at = top + k - 1;
-                self.stack[at] = Value { datum: d };
-                self.top = at;
-            }
-            Effect::Open(l, d) => {
-                self = self.raise(l);
-                let at = top + k - 1;
-                self.stack[at] = Value { datum: d };
-                self.top = at;
+                Effect::Throw(l, code, n) => {
+                    self = self.raise(l);
+                    self = self.fail(code, n);
+                }
+                Effect::Drop => {
+                    self = self.pop(k);
+                }
+                Effect::Push(d) => {
+                    let at = top + k - 1;
+                    self.stack[at] = Value { datum: d };
+                    self.top = at;
+                }
+                Effect::Get(i) => {
+                    let from = least(i, 15);
+                    let v = self.locals[from];
+                    let d = present(i, 16, v);
+                    let at = top + k - 1;
+                    self.stack[at] = Value { datum: d };
+                    self.top = at;
+                }
+                Effect::Set(i, d) => {
+                    self = self.pop(k);
+                    if i < 16 {
+                        self.locals[i] = Value { datum: d };
+                    }
+                }
+                Effect::Jump(t) => {
+                    self = self.pop(k);
+                    self = self.jump(t);
+                }
+                Effect::Try(h) => {
+                    self = self.pop(k);
+                    self = self.enter_try(h);
+                }
+                Effect::Done => {
+                    self = self.pop(k);
+                    self = self.leave_try();
+                }
+                Effect::End(d) => {
+                    self = self.pop(k);
+                    self = self.end(Ending::Result(d));
+                }
+                Effect::Raise(l) => {
+                    self = self.pop(k);
+                    self = self.raise(l);
+                }
+                Effect::Lower(l) => {
+                    self = self.pop(k);
+                    self = self.lower(l);
+                }
+                Effect::Make(d) => {
+                    self = self.take(1);
+                    let at = top + k - 1;
+                    self.stack[at] = Value { datum: d };
+                    self.top = at;
+                }
+                Effect::Open(l, d) => {
+                    self = self.raise(l);
+                    let at = top + k - 1;
+                    self.stack[at] = Value { datum: d };
+                    self.top = at;
+                }
             }
         }
         self
@@ -356,18 +435,9 @@ impl State {
         let first = least(top, 31);
         let y = self.stack[first];
         let d = present(top, 32, y);
-        let label = self.label;
-        let clearance = self.clearance;
         let p = self.next;
-        let lent = Account {
-            label,
-            clearance,
-            steps: self.steps,
-            next: p,
-            limit: self.limit,
-            depth: self.depth,
-        };
-        let e = effects::enter(lent, 32 - top, d, n, k);
+        let account = self.account();
+        let e = effects::enter(account, 32 - top, d, n, k);
         match e {
             Entry::Fault(code) => self.fail(code, 0),
             Entry::Body(b) => {
@@ -391,16 +461,16 @@ impl State {
         }
     }
 
-    // One instruction, its step paid.
+    // One instruction.
     pub fn step(mut self, code: &[u8], labels: &[u64], records: &[u8], store: &mut [u64]) -> State
-        requires { ⌜ Ok self × Live self × Sizes (now code) (now labels) (now store) ⌝ }
-        ensures { λ r. ⌜ Ran r (slots (now (store .exit))) (stepOf (now (code .entry)) (now (labels .entry)) (now (records .entry)) self (slots (now (store .entry)))) ⌝ }
+        requires { ⌜ Ok self × Live self × Sizes (now code) (now labels) (now store) × (0 < self .steps) ⌝ }
+        ensures { λ r. ⌜ Ran r (slots (now (store .exit))) (stepOf (now (code .entry)) (now (labels .entry)) (now (records .entry)) (charged 1 self) (slots (now (store .entry)))) ⌝ }
     {
         let pc = self.pc;
         if decode::byte_at(code, pc) == BLOCK {
-            return self.block(code, labels, records, store);
+            return self.charge(1).block(code, labels, records, store);
         }
-        self.plain(code, labels, records, store)
+        self.advance(code, labels, records, store, 1)
     }
 
     // A run to its end.
@@ -409,15 +479,16 @@ impl State {
         ensures { λ r. ⌜ outcomeOf r (slots (now (store .exit))) ≡ runOf (now (code .entry)) (now (labels .entry)) (now (records .entry)) self (slots (now (store .entry))) ⌝ }
     {
         while self.live() {
-            if self.steps == 0 {
+            let left = self.steps;
+            if left == 0 {
                 return self.end(Ending::Spent);
             }
-            self = self.charge(1);
             let pc = self.pc;
             if decode::byte_at(code, pc) == BLOCK {
+                self = self.charge(1);
                 self = self.block(code, labels, records, store);
             } else {
-                self = self.plain(code, labels, records, store);
+                self = self.advance(code, labels, records, store, left);
             }
         }
         self

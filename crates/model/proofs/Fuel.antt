@@ -31,7 +31,7 @@ module _ (P : Program) where
         blocked = λ c b n k e f d le x. omega arith;
       }
 
-  step-spends : (R : Runner) (c : Control) (a : Account) (σ : Store) → accountOf (step P R c a σ) .steps ≤ a .steps
+  pub step-spends : (R : Runner) (c : Control) (a : Account) (σ : Store) → accountOf (step P R c a σ) .steps ≤ a .steps
   step-spends R c a σ = step-of (Spends a) P R c a σ (spends-effects R a σ)
 
   -- runners that agree on runs of at most n steps

@@ -11,7 +11,8 @@ use Rattle.operands.specs.Program.{program}
 use Rattle.effects.specs.Bridge.{lent}
 use Rattle.machine.specs.declared.State.{State}
 use Rattle.machine.specs.State.{Ok, control, account}
-use Rattle.machine.specs.Steps.{runOf, block-inside, body-clear, body-some, block-found, left-ran, ok-bodied, rest, rest-live, rest-spent, rest-dead, rest-step, steps-fall, live-true}
+use Rattle.machine.specs.Steps.{runOf, block-inside, not-block, body-clear, body-some, block-found, left-ran, ok-bodied, rest, rest-live, rest-spent, rest-dead, rest-step, steps-fall, live-true}
+use Rattle.machine.specs.Turns.{Ready, advanced-rest, advanced-falls}
 use Prim.Native.Nat.{ℕ, _<_}
 use borrow.Fn.Kinds.{In}
 use borrow.Fn.PlainCycle.{Measures, is, falls, and}
@@ -25,13 +26,14 @@ use Rattle.decode.proofs.byte_at.Reads as byte-at-reads
 use Rattle.decode.proofs.u16_at.Reads as u16-at-reads
 use Rattle.effects.proofs.enter.Reads as enter-reads
 use Rattle.effects.proofs.outcome.Reads as outcome-reads
+use Rattle.machine.proofs.State.account.Reads as account-reads
+use Rattle.machine.proofs.State.advance.Reads as advance-reads
 use Rattle.machine.proofs.State.body.Reads as body-reads
 use Rattle.machine.proofs.State.charge.Reads as charge-reads
 use Rattle.machine.proofs.State.end.Reads as end-reads
 use Rattle.machine.proofs.State.fail.Reads as fail-reads
 use Rattle.machine.proofs.State.jump.Reads as jump-reads
 use Rattle.machine.proofs.State.live.Reads as live-reads
-use Rattle.machine.proofs.State.plain.Reads as plain-reads
 use Rattle.machine.proofs.State.pop.Reads as pop-reads
 use Rattle.machine.proofs.State.push.Reads as push-reads
 use Rattle.machine.proofs.State.take.Reads as take-reads
@@ -60,6 +62,7 @@ run-at t = and 4 run-kinds.ps (is 4 run-kinds.ps μ-run t) run.Pre
 abbrev run-below : ℕ → In 4 run-kinds.ps
 run-below t = and 4 run-kinds.ps (falls 4 run-kinds.ps _<_ μ-run t) run.Pre
 
+-- src/lib.rt:423:38
 block-add-u16-at : (t : ℕ) → block-lts.Need-add-u16-at (
   u16-at-reads.Asked,
   u16-at-reads.Learnt,
@@ -71,6 +74,8 @@ block-add-u16-at : (t : ℕ) → block-lts.Need-add-u16-at (
   least-reads.Learnt,
   present-reads.Asked,
   present-reads.Learnt,
+  account-reads.Asked,
+  account-reads.Learnt,
   enter-reads.Asked,
   enter-reads.Learnt,
   fail-reads.Asked,
@@ -96,6 +101,7 @@ block-add-u16-at : (t : ℕ) → block-lts.Need-add-u16-at (
 ) (block-at t) block.Post
 block-add-u16-at t c = omega (arith, block-inside (now (c .before .before .before .before .args .code)) (c .before .before .before .before .args .t1 .pc) (c .before .before .before .before .pre .1 .3), c .before .before .before .before .pre .1 .2 .code)
 
+-- src/lib.rt:423:17
 block-u16-at-requires : (t : ℕ) → block-lts.Need-u16-at-requires (
   u16-at-reads.Asked,
   u16-at-reads.Learnt,
@@ -107,6 +113,8 @@ block-u16-at-requires : (t : ℕ) → block-lts.Need-u16-at-requires (
   least-reads.Learnt,
   present-reads.Asked,
   present-reads.Learnt,
+  account-reads.Asked,
+  account-reads.Learnt,
   enter-reads.Asked,
   enter-reads.Learnt,
   fail-reads.Asked,
@@ -132,6 +140,7 @@ block-u16-at-requires : (t : ℕ) → block-lts.Need-u16-at-requires (
 ) (block-at t) block.Post
 block-u16-at-requires t c κs = omega (arith, block-inside (now (c .before .before .before .before .args .code)) (c .before .before .before .before .args .t1 .pc) (c .before .before .before .before .pre .1 .3), c .before .before .before .before .pre .1 .2 .code)
 
+-- src/lib.rt:423:17
 block-cast-t : (t : ℕ) → block-lts.Need-cast-t (
   u16-at-reads.Asked,
   u16-at-reads.Learnt,
@@ -143,6 +152,8 @@ block-cast-t : (t : ℕ) → block-lts.Need-cast-t (
   least-reads.Learnt,
   present-reads.Asked,
   present-reads.Learnt,
+  account-reads.Asked,
+  account-reads.Learnt,
   enter-reads.Asked,
   enter-reads.Learnt,
   fail-reads.Asked,
@@ -168,6 +179,7 @@ block-cast-t : (t : ℕ) → block-lts.Need-cast-t (
 ) (block-at t) block.Post
 block-cast-t t c = search needs
 
+-- src/lib.rt:424:38
 block-add-u16-at-2 : (t : ℕ) → block-lts.Need-add-u16-at-2 (
   u16-at-reads.Asked,
   u16-at-reads.Learnt,
@@ -179,6 +191,8 @@ block-add-u16-at-2 : (t : ℕ) → block-lts.Need-add-u16-at-2 (
   least-reads.Learnt,
   present-reads.Asked,
   present-reads.Learnt,
+  account-reads.Asked,
+  account-reads.Learnt,
   enter-reads.Asked,
   enter-reads.Learnt,
   fail-reads.Asked,
@@ -204,6 +218,7 @@ block-add-u16-at-2 : (t : ℕ) → block-lts.Need-add-u16-at-2 (
 ) (block-at t) block.Post
 block-add-u16-at-2 t c = omega (arith, block-inside (now (c .before .before .before .before .before .args .code)) (c .before .before .before .before .before .args .t1 .pc) (c .before .before .before .before .before .pre .1 .3), c .before .before .before .before .before .pre .1 .2 .code)
 
+-- src/lib.rt:424:17
 block-u16-at-requires-2 : (t : ℕ) → block-lts.Need-u16-at-requires-2 (
   u16-at-reads.Asked,
   u16-at-reads.Learnt,
@@ -215,6 +230,8 @@ block-u16-at-requires-2 : (t : ℕ) → block-lts.Need-u16-at-requires-2 (
   least-reads.Learnt,
   present-reads.Asked,
   present-reads.Learnt,
+  account-reads.Asked,
+  account-reads.Learnt,
   enter-reads.Asked,
   enter-reads.Learnt,
   fail-reads.Asked,
@@ -240,6 +257,7 @@ block-u16-at-requires-2 : (t : ℕ) → block-lts.Need-u16-at-requires-2 (
 ) (block-at t) block.Post
 block-u16-at-requires-2 t c κs = omega (arith, block-inside (now (c .before .before .before .before .before .args .code)) (c .before .before .before .before .before .args .t1 .pc) (c .before .before .before .before .before .pre .1 .3), c .before .before .before .before .before .pre .1 .2 .code)
 
+-- src/lib.rt:424:17
 block-cast-n : (t : ℕ) → block-lts.Need-cast-n (
   u16-at-reads.Asked,
   u16-at-reads.Learnt,
@@ -251,6 +269,8 @@ block-cast-n : (t : ℕ) → block-lts.Need-cast-n (
   least-reads.Learnt,
   present-reads.Asked,
   present-reads.Learnt,
+  account-reads.Asked,
+  account-reads.Learnt,
   enter-reads.Asked,
   enter-reads.Learnt,
   fail-reads.Asked,
@@ -276,6 +296,7 @@ block-cast-n : (t : ℕ) → block-lts.Need-cast-n (
 ) (block-at t) block.Post
 block-cast-n t c = search needs
 
+-- src/lib.rt:425:39
 block-add-byte-at : (t : ℕ) → block-lts.Need-add-byte-at (
   u16-at-reads.Asked,
   u16-at-reads.Learnt,
@@ -287,6 +308,8 @@ block-add-byte-at : (t : ℕ) → block-lts.Need-add-byte-at (
   least-reads.Learnt,
   present-reads.Asked,
   present-reads.Learnt,
+  account-reads.Asked,
+  account-reads.Learnt,
   enter-reads.Asked,
   enter-reads.Learnt,
   fail-reads.Asked,
@@ -312,6 +335,7 @@ block-add-byte-at : (t : ℕ) → block-lts.Need-add-byte-at (
 ) (block-at t) block.Post
 block-add-byte-at t c = omega (arith, block-inside (now (c .before .before .before .before .before .before .args .code)) (c .before .before .before .before .before .before .args .t1 .pc) (c .before .before .before .before .before .before .pre .1 .3), c .before .before .before .before .before .before .pre .1 .2 .code)
 
+-- src/lib.rt:425:17
 block-byte-at-requires : (t : ℕ) → block-lts.Need-byte-at-requires (
   u16-at-reads.Asked,
   u16-at-reads.Learnt,
@@ -323,6 +347,8 @@ block-byte-at-requires : (t : ℕ) → block-lts.Need-byte-at-requires (
   least-reads.Learnt,
   present-reads.Asked,
   present-reads.Learnt,
+  account-reads.Asked,
+  account-reads.Learnt,
   enter-reads.Asked,
   enter-reads.Learnt,
   fail-reads.Asked,
@@ -348,6 +374,7 @@ block-byte-at-requires : (t : ℕ) → block-lts.Need-byte-at-requires (
 ) (block-at t) block.Post
 block-byte-at-requires t c κs = search needs
 
+-- src/lib.rt:425:17
 block-cast-k : (t : ℕ) → block-lts.Need-cast-k (
   u16-at-reads.Asked,
   u16-at-reads.Learnt,
@@ -359,6 +386,8 @@ block-cast-k : (t : ℕ) → block-lts.Need-cast-k (
   least-reads.Learnt,
   present-reads.Asked,
   present-reads.Learnt,
+  account-reads.Asked,
+  account-reads.Learnt,
   enter-reads.Asked,
   enter-reads.Learnt,
   fail-reads.Asked,
@@ -384,6 +413,7 @@ block-cast-k : (t : ℕ) → block-lts.Need-cast-k (
 ) (block-at t) block.Post
 block-cast-k t c = search needs
 
+-- src/lib.rt:426:26
 block-add-jump : (t : ℕ) → block-lts.Need-add-jump (
   u16-at-reads.Asked,
   u16-at-reads.Learnt,
@@ -395,6 +425,8 @@ block-add-jump : (t : ℕ) → block-lts.Need-add-jump (
   least-reads.Learnt,
   present-reads.Asked,
   present-reads.Learnt,
+  account-reads.Asked,
+  account-reads.Learnt,
   enter-reads.Asked,
   enter-reads.Learnt,
   fail-reads.Asked,
@@ -420,6 +452,7 @@ block-add-jump : (t : ℕ) → block-lts.Need-add-jump (
 ) (block-at t) block.Post
 block-add-jump t c = omega (arith, block-inside (now (c .before .before .before .before .before .before .before .args .code)) (c .before .before .before .before .before .before .before .args .t1 .pc) (c .before .before .before .before .before .before .before .pre .1 .3), c .before .before .before .before .before .before .before .pre .1 .2 .code)
 
+-- src/lib.rt:426:16
 block-jump-requires : (t : ℕ) → block-lts.Need-jump-requires (
   u16-at-reads.Asked,
   u16-at-reads.Learnt,
@@ -431,6 +464,8 @@ block-jump-requires : (t : ℕ) → block-lts.Need-jump-requires (
   least-reads.Learnt,
   present-reads.Asked,
   present-reads.Learnt,
+  account-reads.Asked,
+  account-reads.Learnt,
   enter-reads.Asked,
   enter-reads.Learnt,
   fail-reads.Asked,
@@ -456,6 +491,7 @@ block-jump-requires : (t : ℕ) → block-lts.Need-jump-requires (
 ) (block-at t) block.Post
 block-jump-requires t c κs = search needs
 
+-- src/lib.rt:428:13
 block-least-requires : (t : ℕ) → block-lts.Need-least-requires (
   u16-at-reads.Asked,
   u16-at-reads.Learnt,
@@ -467,6 +503,8 @@ block-least-requires : (t : ℕ) → block-lts.Need-least-requires (
   least-reads.Learnt,
   present-reads.Asked,
   present-reads.Learnt,
+  account-reads.Asked,
+  account-reads.Learnt,
   enter-reads.Asked,
   enter-reads.Learnt,
   fail-reads.Asked,
@@ -492,6 +530,7 @@ block-least-requires : (t : ℕ) → block-lts.Need-least-requires (
 ) (block-at t) block.Post
 block-least-requires t c κs = search needs
 
+-- src/lib.rt:429:17
 block-mul-y : (t : ℕ) → block-lts.Need-mul-y (
   u16-at-reads.Asked,
   u16-at-reads.Learnt,
@@ -503,6 +542,8 @@ block-mul-y : (t : ℕ) → block-lts.Need-mul-y (
   least-reads.Learnt,
   present-reads.Asked,
   present-reads.Learnt,
+  account-reads.Asked,
+  account-reads.Learnt,
   enter-reads.Asked,
   enter-reads.Learnt,
   fail-reads.Asked,
@@ -528,6 +569,7 @@ block-mul-y : (t : ℕ) → block-lts.Need-mul-y (
 ) (block-at t) block.Post
 block-mul-y t c = search needs
 
+-- src/lib.rt:429:17
 block-element-copy-out-y : (t : ℕ) → block-lts.Need-element-copy-out-y (
   u16-at-reads.Asked,
   u16-at-reads.Learnt,
@@ -539,6 +581,8 @@ block-element-copy-out-y : (t : ℕ) → block-lts.Need-element-copy-out-y (
   least-reads.Learnt,
   present-reads.Asked,
   present-reads.Learnt,
+  account-reads.Asked,
+  account-reads.Learnt,
   enter-reads.Asked,
   enter-reads.Learnt,
   fail-reads.Asked,
@@ -564,6 +608,7 @@ block-element-copy-out-y : (t : ℕ) → block-lts.Need-element-copy-out-y (
 ) (block-at t) block.Post
 block-element-copy-out-y t c = search needs
 
+-- src/lib.rt:430:13
 block-present-requires : (t : ℕ) → block-lts.Need-present-requires (
   u16-at-reads.Asked,
   u16-at-reads.Learnt,
@@ -575,6 +620,8 @@ block-present-requires : (t : ℕ) → block-lts.Need-present-requires (
   least-reads.Learnt,
   present-reads.Asked,
   present-reads.Learnt,
+  account-reads.Asked,
+  account-reads.Learnt,
   enter-reads.Asked,
   enter-reads.Learnt,
   fail-reads.Asked,
@@ -600,6 +647,46 @@ block-present-requires : (t : ℕ) → block-lts.Need-present-requires (
 ) (block-at t) block.Post
 block-present-requires t c κs = search needs
 
+-- src/lib.rt:432:13
+block-account-requires : (t : ℕ) → block-lts.Need-account-requires (
+  u16-at-reads.Asked,
+  u16-at-reads.Learnt,
+  byte-at-reads.Asked,
+  byte-at-reads.Learnt,
+  jump-reads.Asked,
+  jump-reads.Learnt,
+  least-reads.Asked,
+  least-reads.Learnt,
+  present-reads.Asked,
+  present-reads.Learnt,
+  account-reads.Asked,
+  account-reads.Learnt,
+  enter-reads.Asked,
+  enter-reads.Learnt,
+  fail-reads.Asked,
+  fail-reads.Learnt,
+  body-reads.Asked,
+  body-reads.Learnt,
+  run-below t,
+  run.Post,
+  ending-reads.Asked,
+  ending-reads.Learnt,
+  outcome-reads.Asked,
+  outcome-reads.Learnt,
+  save-reads.Asked,
+  save-reads.Learnt,
+  charge-reads.Asked,
+  charge-reads.Learnt,
+  take-reads.Asked,
+  take-reads.Learnt,
+  pop-reads.Asked,
+  pop-reads.Learnt,
+  push-reads.Asked,
+  push-reads.Learnt,
+) (block-at t) block.Post
+block-account-requires t c κs = search needs
+
+-- src/lib.rt:433:41
 block-sub-enter : (t : ℕ) → block-lts.Need-sub-enter (
   u16-at-reads.Asked,
   u16-at-reads.Learnt,
@@ -611,6 +698,8 @@ block-sub-enter : (t : ℕ) → block-lts.Need-sub-enter (
   least-reads.Learnt,
   present-reads.Asked,
   present-reads.Learnt,
+  account-reads.Asked,
+  account-reads.Learnt,
   enter-reads.Asked,
   enter-reads.Learnt,
   fail-reads.Asked,
@@ -634,8 +723,9 @@ block-sub-enter : (t : ℕ) → block-lts.Need-sub-enter (
   push-reads.Asked,
   push-reads.Learnt,
 ) (block-at t) block.Post
-block-sub-enter t c = rw (c .before .before .before .before .before .jump .ensures) (c .before .before .before .before .before .before .before .before .before .before .before .before .before .pre .1 .0 .stack .index)
+block-sub-enter t c = rw (c .before .before .before .before .jump .ensures) (c .before .before .before .before .before .before .before .before .before .before .before .before .pre .1 .0 .stack .index)
 
+-- src/lib.rt:433:13
 block-enter-requires : (t : ℕ) → block-lts.Need-enter-requires (
   u16-at-reads.Asked,
   u16-at-reads.Learnt,
@@ -647,6 +737,8 @@ block-enter-requires : (t : ℕ) → block-lts.Need-enter-requires (
   least-reads.Learnt,
   present-reads.Asked,
   present-reads.Learnt,
+  account-reads.Asked,
+  account-reads.Learnt,
   enter-reads.Asked,
   enter-reads.Learnt,
   fail-reads.Asked,
@@ -670,8 +762,9 @@ block-enter-requires : (t : ℕ) → block-lts.Need-enter-requires (
   push-reads.Asked,
   push-reads.Learnt,
 ) (block-at t) block.Post
-block-enter-requires t c κs = rw (c .before .before .before .before .before .jump .ensures) (c .before .before .before .before .before .before .before .before .before .before .before .before .before .pre .1 .0 .places .used)
+block-enter-requires t c κs = rw (c .account .ensures, c .before .before .before .before .jump .ensures) (c .before .before .before .before .before .before .before .before .before .before .before .before .pre .1 .0 .places .used)
 
+-- src/lib.rt:435:26
 block-enum-known-e : (t : ℕ) → block-lts.Need-enum-known-e (
   u16-at-reads.Asked,
   u16-at-reads.Learnt,
@@ -683,6 +776,8 @@ block-enum-known-e : (t : ℕ) → block-lts.Need-enum-known-e (
   least-reads.Learnt,
   present-reads.Asked,
   present-reads.Learnt,
+  account-reads.Asked,
+  account-reads.Learnt,
   enter-reads.Asked,
   enter-reads.Learnt,
   fail-reads.Asked,
@@ -708,6 +803,7 @@ block-enum-known-e : (t : ℕ) → block-lts.Need-enum-known-e (
 ) (block-at t) block.Post
 block-enum-known-e t c = search needs
 
+-- src/lib.rt:435:35
 block-fail-requires : (t : ℕ) → block-lts.Need-fail-requires (
   u16-at-reads.Asked,
   u16-at-reads.Learnt,
@@ -719,6 +815,8 @@ block-fail-requires : (t : ℕ) → block-lts.Need-fail-requires (
   least-reads.Learnt,
   present-reads.Asked,
   present-reads.Learnt,
+  account-reads.Asked,
+  account-reads.Learnt,
   enter-reads.Asked,
   enter-reads.Learnt,
   fail-reads.Asked,
@@ -742,8 +840,9 @@ block-fail-requires : (t : ℕ) → block-lts.Need-fail-requires (
   push-reads.Asked,
   push-reads.Learnt,
 ) (block-at t) block.Post
-block-fail-requires t c κs = rw (c .before .before .before .before .before .before .before .before .before .jump .ensures) (c .before .before .before .before .before .before .before .before .before .before .before .before .before .before .before .before .before .pre .1 .0, c .before .before .before .before .before .before .before .before .before .before .before .before .before .before .before .before .before .pre .1 .1)
+block-fail-requires t c κs = rw (c .before .before .before .before .before .before .before .before .jump .ensures) (c .before .before .before .before .before .before .before .before .before .before .before .before .before .before .before .before .pre .1 .0, c .before .before .before .before .before .before .before .before .before .before .before .before .before .before .before .before .pre .1 .1)
 
+-- src/lib.rt:436:25
 block-enum-known-e-2 : (t : ℕ) → block-lts.Need-enum-known-e-2 (
   u16-at-reads.Asked,
   u16-at-reads.Learnt,
@@ -755,6 +854,8 @@ block-enum-known-e-2 : (t : ℕ) → block-lts.Need-enum-known-e-2 (
   least-reads.Learnt,
   present-reads.Asked,
   present-reads.Learnt,
+  account-reads.Asked,
+  account-reads.Learnt,
   enter-reads.Asked,
   enter-reads.Learnt,
   fail-reads.Asked,
@@ -780,6 +881,7 @@ block-enum-known-e-2 : (t : ℕ) → block-lts.Need-enum-known-e-2 (
 ) (block-at t) block.Post
 block-enum-known-e-2 t c = search needs
 
+-- src/lib.rt:437:27
 block-body-requires : (t : ℕ) → block-lts.Need-body-requires (
   u16-at-reads.Asked,
   u16-at-reads.Learnt,
@@ -791,6 +893,8 @@ block-body-requires : (t : ℕ) → block-lts.Need-body-requires (
   least-reads.Learnt,
   present-reads.Asked,
   present-reads.Learnt,
+  account-reads.Asked,
+  account-reads.Learnt,
   enter-reads.Asked,
   enter-reads.Learnt,
   fail-reads.Asked,
@@ -814,8 +918,9 @@ block-body-requires : (t : ℕ) → block-lts.Need-body-requires (
   push-reads.Asked,
   push-reads.Learnt,
 ) (block-at t) block.Post
-block-body-requires t c κs = let cl = body-clear (account (c .before .before .before .before .before .before .before .before .before .jump .result)) _ _ _ _ _ (sym (c .before .before .before .enter .ensures) ∙ c .before .e2 .given .1) in let ok : Ok (c .before .before .before .before .before .before .before .before .before .jump .result) = rw (c .before .before .before .before .before .before .before .before .before .jump .ensures) (c .before .before .before .before .before .before .before .before .before .before .before .before .before .before .before .before .before .pre .1 .0) in (omega (arith, cl .room, ok .places .most), cl .deep)
+block-body-requires t c κs = let cl = body-clear (account (c .before .before .before .before .before .before .before .before .jump .result)) _ _ _ _ _ (sym (rw (c .before .before .before .before .account .ensures) at (c .before .before .before .enter .ensures)) ∙ c .before .e2 .given .1) in let ok : Ok (c .before .before .before .before .before .before .before .before .jump .result) = rw (c .before .before .before .before .before .before .before .before .jump .ensures) (c .before .before .before .before .before .before .before .before .before .before .before .before .before .before .before .before .pre .1 .0) in (omega (arith, cl .room, ok .places .most), cl .deep)
 
+-- src/lib.rt:437:21
 block-run-requires : (t : ℕ) → block-lts.Need-run-requires (
   u16-at-reads.Asked,
   u16-at-reads.Learnt,
@@ -827,6 +932,8 @@ block-run-requires : (t : ℕ) → block-lts.Need-run-requires (
   least-reads.Learnt,
   present-reads.Asked,
   present-reads.Learnt,
+  account-reads.Asked,
+  account-reads.Learnt,
   enter-reads.Asked,
   enter-reads.Learnt,
   fail-reads.Asked,
@@ -850,8 +957,9 @@ block-run-requires : (t : ℕ) → block-lts.Need-run-requires (
   push-reads.Asked,
   push-reads.Learnt,
 ) (block-at t) block.Post
-block-run-requires t c κs = let cl = body-clear (account (c .before .before .before .before .before .before .before .before .before .before .before .jump .result)) _ _ _ _ _ (sym (c .before .before .before .before .before .enter .ensures) ∙ c .before .before .before .e2 .given .1) in let ok : Ok (c .before .before .before .before .before .before .before .before .before .before .before .jump .result) = rw (c .before .before .before .before .before .before .before .before .before .before .before .jump .ensures) (c .before .before .before .before .before .before .before .before .before .before .before .before .before .before .before .before .before .before .before .pre .1 .0) in let p = ap (λ (x : State). x .steps) (c .before .before .before .before .before .before .before .before .before .before .before .jump .ensures) in rw (c .before .body .ensures) (omega (arith, p, cl .time, c .before .before .before .before .before .before .before .before .before .before .before .before .before .before .before .before .before .before .before .pre .0), (ok-bodied 0 0 _ (c .before .before .before .before .before .before .before .before .before .before .before .jump .result) ok (cl .room), rw (c .before .before .before .before .before .before .before .before .before .before .before .jump .ensures) (c .before .before .before .before .before .before .before .before .before .before .before .before .before .before .before .before .before .before .before .pre .1 .1), c .before .before .before .before .before .before .before .before .before .before .before .before .before .before .before .before .before .before .before .pre .1 .2))
+block-run-requires t c κs = let cl = body-clear (account (c .before .before .before .before .before .before .before .before .before .before .jump .result)) _ _ _ _ _ (sym (rw (c .before .before .before .before .before .before .account .ensures) at (c .before .before .before .before .before .enter .ensures)) ∙ c .before .before .before .e2 .given .1) in let ok : Ok (c .before .before .before .before .before .before .before .before .before .before .jump .result) = rw (c .before .before .before .before .before .before .before .before .before .before .jump .ensures) (c .before .before .before .before .before .before .before .before .before .before .before .before .before .before .before .before .before .before .pre .1 .0) in let p = ap (λ (x : State). x .steps) (c .before .before .before .before .before .before .before .before .before .before .jump .ensures) in rw (c .before .body .ensures) (omega (arith, p, cl .time, c .before .before .before .before .before .before .before .before .before .before .before .before .before .before .before .before .before .before .pre .0), (ok-bodied 0 0 _ (c .before .before .before .before .before .before .before .before .before .before .jump .result) ok (cl .room), rw (c .before .before .before .before .before .before .before .before .before .before .jump .ensures) (c .before .before .before .before .before .before .before .before .before .before .before .before .before .before .before .before .before .before .pre .1 .1), c .before .before .before .before .before .before .before .before .before .before .before .before .before .before .before .before .before .before .pre .1 .2))
 
+-- src/lib.rt:440:52
 block-ending-requires : (t : ℕ) → block-lts.Need-ending-requires (
   u16-at-reads.Asked,
   u16-at-reads.Learnt,
@@ -863,6 +971,8 @@ block-ending-requires : (t : ℕ) → block-lts.Need-ending-requires (
   least-reads.Learnt,
   present-reads.Asked,
   present-reads.Learnt,
+  account-reads.Asked,
+  account-reads.Learnt,
   enter-reads.Asked,
   enter-reads.Learnt,
   fail-reads.Asked,
@@ -888,6 +998,7 @@ block-ending-requires : (t : ℕ) → block-lts.Need-ending-requires (
 ) (block-at t) block.Post
 block-ending-requires t c κs = search needs
 
+-- src/lib.rt:440:21
 block-outcome-requires : (t : ℕ) → block-lts.Need-outcome-requires (
   u16-at-reads.Asked,
   u16-at-reads.Learnt,
@@ -899,6 +1010,8 @@ block-outcome-requires : (t : ℕ) → block-lts.Need-outcome-requires (
   least-reads.Learnt,
   present-reads.Asked,
   present-reads.Learnt,
+  account-reads.Asked,
+  account-reads.Learnt,
   enter-reads.Asked,
   enter-reads.Learnt,
   fail-reads.Asked,
@@ -924,6 +1037,7 @@ block-outcome-requires : (t : ℕ) → block-lts.Need-outcome-requires (
 ) (block-at t) block.Post
 block-outcome-requires t c κs = search needs
 
+-- src/lib.rt:441:17
 block-save-requires : (t : ℕ) → block-lts.Need-save-requires (
   u16-at-reads.Asked,
   u16-at-reads.Learnt,
@@ -935,6 +1049,8 @@ block-save-requires : (t : ℕ) → block-lts.Need-save-requires (
   least-reads.Learnt,
   present-reads.Asked,
   present-reads.Learnt,
+  account-reads.Asked,
+  account-reads.Learnt,
   enter-reads.Asked,
   enter-reads.Learnt,
   fail-reads.Asked,
@@ -958,8 +1074,9 @@ block-save-requires : (t : ℕ) → block-lts.Need-save-requires (
   push-reads.Asked,
   push-reads.Learnt,
 ) (block-at t) block.Post
-block-save-requires t c κs = c .before .before .before .before .before .before .before .run .kept .1 .1 .1 .1 .0 ∙ c .before .before .before .before .before .before .before .before .before .before .before .before .before .before .before .before .before .before .before .before .before .before .before .before .before .before .before .pre .1 .2 .store
+block-save-requires t c κs = c .before .before .before .before .before .before .before .run .kept .1 .1 .1 .1 .0 ∙ c .before .before .before .before .before .before .before .before .before .before .before .before .before .before .before .before .before .before .before .before .before .before .before .before .before .before .pre .1 .2 .store
 
+-- src/lib.rt:450:17
 block-charge-requires : (t : ℕ) → block-lts.Need-charge-requires (
   u16-at-reads.Asked,
   u16-at-reads.Learnt,
@@ -971,6 +1088,8 @@ block-charge-requires : (t : ℕ) → block-lts.Need-charge-requires (
   least-reads.Learnt,
   present-reads.Asked,
   present-reads.Learnt,
+  account-reads.Asked,
+  account-reads.Learnt,
   enter-reads.Asked,
   enter-reads.Learnt,
   fail-reads.Asked,
@@ -994,8 +1113,9 @@ block-charge-requires : (t : ℕ) → block-lts.Need-charge-requires (
   push-reads.Asked,
   push-reads.Learnt,
 ) (block-at t) block.Post
-block-charge-requires t c κs = let cl = body-clear (account (c .before .before .before .before .before .before .before .before .before .before .before .before .before .before .before .before .before .before .before .before .before .before .jump .result)) _ _ _ _ _ (sym (c .before .before .before .before .before .before .before .before .before .before .before .before .before .before .before .before .enter .ensures) ∙ c .before .before .before .before .before .before .before .before .before .before .before .before .before .before .e2 .given .1) in cl .time
+block-charge-requires t c κs = let cl = body-clear (account (c .before .before .before .before .before .before .before .before .before .before .before .before .before .before .before .before .before .before .before .before .before .jump .result)) _ _ _ _ _ (sym (rw (c .before .before .before .before .before .before .before .before .before .before .before .before .before .before .before .before .before .account .ensures) at (c .before .before .before .before .before .before .before .before .before .before .before .before .before .before .before .before .enter .ensures)) ∙ c .before .before .before .before .before .before .before .before .before .before .before .before .before .before .e2 .given .1) in cl .time
 
+-- src/lib.rt:450:37
 block-add-take : (t : ℕ) → block-lts.Need-add-take (
   u16-at-reads.Asked,
   u16-at-reads.Learnt,
@@ -1007,6 +1127,8 @@ block-add-take : (t : ℕ) → block-lts.Need-add-take (
   least-reads.Learnt,
   present-reads.Asked,
   present-reads.Learnt,
+  account-reads.Asked,
+  account-reads.Learnt,
   enter-reads.Asked,
   enter-reads.Learnt,
   fail-reads.Asked,
@@ -1030,8 +1152,9 @@ block-add-take : (t : ℕ) → block-lts.Need-add-take (
   push-reads.Asked,
   push-reads.Learnt,
 ) (block-at t) block.Post
-block-add-take t c = let cl = body-clear (account (c .before .before .before .before .before .before .before .before .before .before .before .before .before .before .before .before .before .before .before .before .before .before .before .jump .result)) _ _ _ _ _ (sym (c .before .before .before .before .before .before .before .before .before .before .before .before .before .before .before .before .before .enter .ensures) ∙ c .before .before .before .before .before .before .before .before .before .before .before .before .before .before .before .e2 .given .1) in let ok : Ok (c .before .before .before .before .before .before .before .before .before .before .before .before .before .before .before .before .before .before .before .before .before .before .before .jump .result) = rw (c .before .before .before .before .before .before .before .before .before .before .before .before .before .before .before .before .before .before .before .before .before .before .before .jump .ensures) (c .before .before .before .before .before .before .before .before .before .before .before .before .before .before .before .before .before .before .before .before .before .before .before .before .before .before .before .before .before .before .before .pre .1 .0) in omega (arith, cl .room, ok .places .most)
+block-add-take t c = let cl = body-clear (account (c .before .before .before .before .before .before .before .before .before .before .before .before .before .before .before .before .before .before .before .before .before .before .jump .result)) _ _ _ _ _ (sym (rw (c .before .before .before .before .before .before .before .before .before .before .before .before .before .before .before .before .before .before .account .ensures) at (c .before .before .before .before .before .before .before .before .before .before .before .before .before .before .before .before .before .enter .ensures)) ∙ c .before .before .before .before .before .before .before .before .before .before .before .before .before .before .before .e2 .given .1) in let ok : Ok (c .before .before .before .before .before .before .before .before .before .before .before .before .before .before .before .before .before .before .before .before .before .before .jump .result) = rw (c .before .before .before .before .before .before .before .before .before .before .before .before .before .before .before .before .before .before .before .before .before .before .jump .ensures) (c .before .before .before .before .before .before .before .before .before .before .before .before .before .before .before .before .before .before .before .before .before .before .before .before .before .before .before .before .before .before .pre .1 .0) in omega (arith, cl .room, ok .places .most)
 
+-- src/lib.rt:450:17
 block-take-requires : (t : ℕ) → block-lts.Need-take-requires (
   u16-at-reads.Asked,
   u16-at-reads.Learnt,
@@ -1043,6 +1166,8 @@ block-take-requires : (t : ℕ) → block-lts.Need-take-requires (
   least-reads.Learnt,
   present-reads.Asked,
   present-reads.Learnt,
+  account-reads.Asked,
+  account-reads.Learnt,
   enter-reads.Asked,
   enter-reads.Learnt,
   fail-reads.Asked,
@@ -1066,8 +1191,9 @@ block-take-requires : (t : ℕ) → block-lts.Need-take-requires (
   push-reads.Asked,
   push-reads.Learnt,
 ) (block-at t) block.Post
-block-take-requires t c κs = let cl = body-clear (account (c .before .before .before .before .before .before .before .before .before .before .before .before .before .before .before .before .before .before .before .before .before .before .before .jump .result)) _ _ _ _ _ (sym (c .before .before .before .before .before .before .before .before .before .before .before .before .before .before .before .before .before .enter .ensures) ∙ c .before .before .before .before .before .before .before .before .before .before .before .before .before .before .before .e2 .given .1) in let ok : Ok (c .before .before .before .before .before .before .before .before .before .before .before .before .before .before .before .before .before .before .before .before .before .before .before .jump .result) = rw (c .before .before .before .before .before .before .before .before .before .before .before .before .before .before .before .before .before .before .before .before .before .before .before .jump .ensures) (c .before .before .before .before .before .before .before .before .before .before .before .before .before .before .before .before .before .before .before .before .before .before .before .before .before .before .before .before .before .before .before .pre .1 .0) in rw (c .charge .ensures) (omega (arith, cl .room, ok .places .most))
+block-take-requires t c κs = let cl = body-clear (account (c .before .before .before .before .before .before .before .before .before .before .before .before .before .before .before .before .before .before .before .before .before .before .jump .result)) _ _ _ _ _ (sym (rw (c .before .before .before .before .before .before .before .before .before .before .before .before .before .before .before .before .before .before .account .ensures) at (c .before .before .before .before .before .before .before .before .before .before .before .before .before .before .before .before .before .enter .ensures)) ∙ c .before .before .before .before .before .before .before .before .before .before .before .before .before .before .before .e2 .given .1) in let ok : Ok (c .before .before .before .before .before .before .before .before .before .before .before .before .before .before .before .before .before .before .before .before .before .before .jump .result) = rw (c .before .before .before .before .before .before .before .before .before .before .before .before .before .before .before .before .before .before .before .before .before .before .jump .ensures) (c .before .before .before .before .before .before .before .before .before .before .before .before .before .before .before .before .before .before .before .before .before .before .before .before .before .before .before .before .before .before .pre .1 .0) in rw (c .charge .ensures) (omega (arith, cl .room, ok .places .most))
 
+-- src/lib.rt:450:17
 block-pop-requires : (t : ℕ) → block-lts.Need-pop-requires (
   u16-at-reads.Asked,
   u16-at-reads.Learnt,
@@ -1079,6 +1205,8 @@ block-pop-requires : (t : ℕ) → block-lts.Need-pop-requires (
   least-reads.Learnt,
   present-reads.Asked,
   present-reads.Learnt,
+  account-reads.Asked,
+  account-reads.Learnt,
   enter-reads.Asked,
   enter-reads.Learnt,
   fail-reads.Asked,
@@ -1102,8 +1230,9 @@ block-pop-requires : (t : ℕ) → block-lts.Need-pop-requires (
   push-reads.Asked,
   push-reads.Learnt,
 ) (block-at t) block.Post
-block-pop-requires t c κs = let sm = body-some (lent (account (c .before .before .before .before .before .before .before .before .before .before .before .before .before .before .before .before .before .before .before .before .before .before .before .before .jump .result))) _ _ _ _ _ (sym (c .before .before .before .before .before .before .before .before .before .before .before .before .before .before .before .before .before .before .enter .ensures) ∙ c .before .before .before .before .before .before .before .before .before .before .before .before .before .before .before .before .e2 .given .1) in rw (c .take .ensures, c .before .charge .ensures) (omega (arith, sm))
+block-pop-requires t c κs = let sm = body-some (lent (account (c .before .before .before .before .before .before .before .before .before .before .before .before .before .before .before .before .before .before .before .before .before .before .before .jump .result))) _ _ _ _ _ (sym (rw (c .before .before .before .before .before .before .before .before .before .before .before .before .before .before .before .before .before .before .before .account .ensures) at (c .before .before .before .before .before .before .before .before .before .before .before .before .before .before .before .before .before .before .enter .ensures)) ∙ c .before .before .before .before .before .before .before .before .before .before .before .before .before .before .before .before .e2 .given .1) in rw (c .take .ensures, c .before .charge .ensures) (omega (arith, sm))
 
+-- src/lib.rt:450:17
 block-push-requires : (t : ℕ) → block-lts.Need-push-requires (
   u16-at-reads.Asked,
   u16-at-reads.Learnt,
@@ -1115,6 +1244,8 @@ block-push-requires : (t : ℕ) → block-lts.Need-push-requires (
   least-reads.Learnt,
   present-reads.Asked,
   present-reads.Learnt,
+  account-reads.Asked,
+  account-reads.Learnt,
   enter-reads.Asked,
   enter-reads.Learnt,
   fail-reads.Asked,
@@ -1138,8 +1269,9 @@ block-push-requires : (t : ℕ) → block-lts.Need-push-requires (
   push-reads.Asked,
   push-reads.Learnt,
 ) (block-at t) block.Post
-block-push-requires t c κs = let sm = body-some (lent (account (c .before .before .before .before .before .before .before .before .before .before .before .before .before .before .before .before .before .before .before .before .before .before .before .before .before .jump .result))) _ _ _ _ _ (sym (c .before .before .before .before .before .before .before .before .before .before .before .before .before .before .before .before .before .before .before .enter .ensures) ∙ c .before .before .before .before .before .before .before .before .before .before .before .before .before .before .before .before .before .e2 .given .1) in rw (c .pop .ensures, c .before .take .ensures, c .before .before .charge .ensures) (omega arith, omega (arith, sm))
+block-push-requires t c κs = let sm = body-some (lent (account (c .before .before .before .before .before .before .before .before .before .before .before .before .before .before .before .before .before .before .before .before .before .before .before .before .jump .result))) _ _ _ _ _ (sym (rw (c .before .before .before .before .before .before .before .before .before .before .before .before .before .before .before .before .before .before .before .before .account .ensures) at (c .before .before .before .before .before .before .before .before .before .before .before .before .before .before .before .before .before .before .before .enter .ensures)) ∙ c .before .before .before .before .before .before .before .before .before .before .before .before .before .before .before .before .before .e2 .given .1) in rw (c .pop .ensures, c .before .take .ensures, c .before .before .charge .ensures) (omega arith, omega (arith, sm))
 
+-- src/lib.rt:418:5
 block-returns : (t : ℕ) → block-lts.Need-returns (
   u16-at-reads.Asked,
   u16-at-reads.Learnt,
@@ -1151,6 +1283,8 @@ block-returns : (t : ℕ) → block-lts.Need-returns (
   least-reads.Learnt,
   present-reads.Asked,
   present-reads.Learnt,
+  account-reads.Asked,
+  account-reads.Learnt,
   enter-reads.Asked,
   enter-reads.Learnt,
   fail-reads.Asked,
@@ -1174,8 +1308,9 @@ block-returns : (t : ℕ) → block-lts.Need-returns (
   push-reads.Asked,
   push-reads.Learnt,
 ) (block-at t) block.Post
-block-returns t c = let code = now (c .before .before .before .before .before .before .before .before .before .before .before .before .before .before .before .before .before .before .args .code) in let ws = now (c .before .before .before .before .before .before .before .before .before .before .before .before .before .before .before .before .before .before .args .labels) in let rs = now (c .before .before .before .before .before .before .before .before .before .before .before .before .before .before .before .before .before .before .args .records) in let m = block-found code ws rs (c .before .before .before .before .before .before .before .before .before .before .before .before .before .before .before .before .before .before .args .t1) (c .before .before .before .before .before .before .before .before .before .before .jump .result) (runs (program code ws rs)) (slots (now (c .before .before .before .before .before .before .before .before .before .before .before .before .before .before .before .before .before .before .args .store))) (c .before .before .before .before .before .before .before .before .before .before .before .before .before .u16-at .result) (c .before .before .before .before .before .before .before .before .before .before .before .before .u16-at2 .result) (c .before .before .before .before .before .before .before .before .before .before .before .byte-at .result) (c .before .before .before .before .before .before .before .before .before .least .result) (c .before .before .before .before .before .before .before .present .result) (c .before .before .before .before .enter .result) (c .before .before .before .before .before .before .before .before .before .before .before .before .before .before .before .before .before .before .pre .1 .3) (c .before .before .before .before .before .before .before .before .before .before .before .before .before .before .before .before .before .before .pre .1 .0) (c .before .before .before .before .before .before .before .before .before .before .jump .ensures) (c .before .before .before .before .before .before .before .before .before .before .before .before .before .u16-at .ensures) (c .before .before .before .before .before .before .before .before .before .before .before .before .u16-at2 .ensures) (c .before .before .before .before .before .before .before .before .before .before .before .byte-at .ensures) (c .before .before .before .before .before .before .before .before .before .least .ensures) (c .before .before .before .before .before .before .before .present .ensures) (c .before .before .before .before .enter .ensures) in let q = rw (c .before .before .e .given .1) at m in record { ok = c .fail .ensures .ok; eq = c .fail .ensures .eq _ ∙ q }
+block-returns t c = let code = now (c .before .before .before .before .before .before .before .before .before .before .before .before .before .before .before .before .before .args .code) in let ws = now (c .before .before .before .before .before .before .before .before .before .before .before .before .before .before .before .before .before .args .labels) in let rs = now (c .before .before .before .before .before .before .before .before .before .before .before .before .before .before .before .before .before .args .records) in let m = block-found code ws rs (c .before .before .before .before .before .before .before .before .before .before .before .before .before .before .before .before .before .args .t1) (c .before .before .before .before .before .before .before .before .before .jump .result) (runs (program code ws rs)) (slots (now (c .before .before .before .before .before .before .before .before .before .before .before .before .before .before .before .before .before .args .store))) (c .before .before .before .before .before .before .before .before .before .before .before .before .u16-at .result) (c .before .before .before .before .before .before .before .before .before .before .before .u16-at2 .result) (c .before .before .before .before .before .before .before .before .before .before .byte-at .result) (c .before .before .before .before .before .before .before .before .least .result) (c .before .before .before .before .before .before .present .result) (c .before .before .before .before .enter .result) (c .before .before .before .before .before .before .before .before .before .before .before .before .before .before .before .before .before .pre .1 .3) (c .before .before .before .before .before .before .before .before .before .before .before .before .before .before .before .before .before .pre .1 .0) (c .before .before .before .before .before .before .before .before .before .jump .ensures) (c .before .before .before .before .before .before .before .before .before .before .before .before .u16-at .ensures) (c .before .before .before .before .before .before .before .before .before .before .before .u16-at2 .ensures) (c .before .before .before .before .before .before .before .before .before .before .byte-at .ensures) (c .before .before .before .before .before .before .before .before .least .ensures) (c .before .before .before .before .before .before .present .ensures) (rw (c .before .before .before .before .before .account .ensures) at (c .before .before .before .before .enter .ensures)) in let q = rw (c .before .before .e .given .1) at m in record { ok = c .fail .ensures .ok; eq = c .fail .ensures .eq _ ∙ q }
 
+-- src/lib.rt:418:5
 block-same-length : (t : ℕ) → block-lts.Need-same-length (
   u16-at-reads.Asked,
   u16-at-reads.Learnt,
@@ -1187,6 +1322,8 @@ block-same-length : (t : ℕ) → block-lts.Need-same-length (
   least-reads.Learnt,
   present-reads.Asked,
   present-reads.Learnt,
+  account-reads.Asked,
+  account-reads.Learnt,
   enter-reads.Asked,
   enter-reads.Learnt,
   fail-reads.Asked,
@@ -1212,6 +1349,7 @@ block-same-length : (t : ℕ) → block-lts.Need-same-length (
 ) (block-at t) block.Post
 block-same-length t c = c .before .before .before .before .before .before .save .kept .0 ∙ c .before .before .before .before .before .before .before .before .before .before .before .before .before .before .run .kept .1 .1 .1 .1 .0
 
+-- src/lib.rt:418:5
 block-returns-2 : (t : ℕ) → block-lts.Need-returns-2 (
   u16-at-reads.Asked,
   u16-at-reads.Learnt,
@@ -1223,6 +1361,8 @@ block-returns-2 : (t : ℕ) → block-lts.Need-returns-2 (
   least-reads.Learnt,
   present-reads.Asked,
   present-reads.Learnt,
+  account-reads.Asked,
+  account-reads.Learnt,
   enter-reads.Asked,
   enter-reads.Learnt,
   fail-reads.Asked,
@@ -1246,7 +1386,7 @@ block-returns-2 : (t : ℕ) → block-lts.Need-returns-2 (
   push-reads.Asked,
   push-reads.Learnt,
 ) (block-at t) block.Post
-block-returns-2 t c = let cl = body-clear (account (c .before .before .before .before .before .before .before .before .before .before .before .before .before .before .before .before .before .before .before .before .before .before .before .before .before .before .jump .result)) _ _ _ _ _ (sym (c .before .before .before .before .before .before .before .before .before .before .before .before .before .before .before .before .before .before .before .before .enter .ensures) ∙ c .before .before .before .before .before .before .before .before .before .before .before .before .before .before .before .before .before .before .e2 .given .1) in let ok : Ok (c .before .before .before .before .before .before .before .before .before .before .before .before .before .before .before .before .before .before .before .before .before .before .before .before .before .before .jump .result) = rw (c .before .before .before .before .before .before .before .before .before .before .before .before .before .before .before .before .before .before .before .before .before .before .before .before .before .before .jump .ensures) (c .before .before .before .before .before .before .before .before .before .before .before .before .before .before .before .before .before .before .before .before .before .before .before .before .before .before .before .before .before .before .before .before .before .before .pre .1 .0) in let sm = body-some (lent (account (c .before .before .before .before .before .before .before .before .before .before .before .before .before .before .before .before .before .before .before .before .before .before .before .before .before .before .jump .result))) _ _ _ _ _ (sym (c .before .before .before .before .before .before .before .before .before .before .before .before .before .before .before .before .before .before .before .before .enter .ensures) ∙ c .before .before .before .before .before .before .before .before .before .before .before .before .before .before .before .before .before .before .e2 .given .1) in let code = now (c .before .before .before .before .before .before .before .before .before .before .before .before .before .before .before .before .before .before .before .before .before .before .before .before .before .before .before .before .before .before .before .before .before .before .args .code) in let ws = now (c .before .before .before .before .before .before .before .before .before .before .before .before .before .before .before .before .before .before .before .before .before .before .before .before .before .before .before .before .before .before .before .before .before .before .args .labels) in let rs = now (c .before .before .before .before .before .before .before .before .before .before .before .before .before .before .before .before .before .before .before .before .before .before .before .before .before .before .before .before .before .before .before .before .before .before .args .records) in let m = block-found code ws rs (c .before .before .before .before .before .before .before .before .before .before .before .before .before .before .before .before .before .before .before .before .before .before .before .before .before .before .before .before .before .before .before .before .before .before .args .t1) (c .before .before .before .before .before .before .before .before .before .before .before .before .before .before .before .before .before .before .before .before .before .before .before .before .before .before .jump .result) (runs (program code ws rs)) (slots (now (c .before .before .before .before .before .before .before .before .before .before .before .before .before .before .before .before .before .before .before .before .before .before .before .before .before .before .before .before .before .before .before .before .before .before .args .store))) (c .before .before .before .before .before .before .before .before .before .before .before .before .before .before .before .before .before .before .before .before .before .before .before .before .before .before .before .before .before .u16-at .result) (c .before .before .before .before .before .before .before .before .before .before .before .before .before .before .before .before .before .before .before .before .before .before .before .before .before .before .before .before .u16-at2 .result) (c .before .before .before .before .before .before .before .before .before .before .before .before .before .before .before .before .before .before .before .before .before .before .before .before .before .before .before .byte-at .result) (c .before .before .before .before .before .before .before .before .before .before .before .before .before .before .before .before .before .before .before .before .before .before .before .before .before .least .result) (c .before .before .before .before .before .before .before .before .before .before .before .before .before .before .before .before .before .before .before .before .before .before .before .present .result) (c .before .before .before .before .before .before .before .before .before .before .before .before .before .before .before .before .before .before .before .before .enter .result) (c .before .before .before .before .before .before .before .before .before .before .before .before .before .before .before .before .before .before .before .before .before .before .before .before .before .before .before .before .before .before .before .before .before .before .pre .1 .3) (c .before .before .before .before .before .before .before .before .before .before .before .before .before .before .before .before .before .before .before .before .before .before .before .before .before .before .before .before .before .before .before .before .before .before .pre .1 .0) (c .before .before .before .before .before .before .before .before .before .before .before .before .before .before .before .before .before .before .before .before .before .before .before .before .before .before .jump .ensures) (c .before .before .before .before .before .before .before .before .before .before .before .before .before .before .before .before .before .before .before .before .before .before .before .before .before .before .before .before .before .u16-at .ensures) (c .before .before .before .before .before .before .before .before .before .before .before .before .before .before .before .before .before .before .before .before .before .before .before .before .before .before .before .before .u16-at2 .ensures) (c .before .before .before .before .before .before .before .before .before .before .before .before .before .before .before .before .before .before .before .before .before .before .before .before .before .before .before .byte-at .ensures) (c .before .before .before .before .before .before .before .before .before .before .before .before .before .before .before .before .before .before .before .before .before .before .before .before .before .least .ensures) (c .before .before .before .before .before .before .before .before .before .before .before .before .before .before .before .before .before .before .before .before .before .before .before .present .ensures) (c .before .before .before .before .before .before .before .before .before .before .before .before .before .before .before .before .before .before .before .before .enter .ensures) in left-ran code ws rs (runs (program code ws rs)) (c .before .before .before .before .before .before .before .before .before .before .before .before .before .before .before .before .before .before .before .before .before .before .before .before .before .before .jump .result) (c .before .before .before .before .before .before .before .before .before .before .before .before .before .before .run .result) _ (slots (now (c .before .before .before .before .before .before .before .before .before .before .before .before .before .before .before .before .before .before .before .before .before .before .before .before .before .before .before .before .before .before .before .before .before .before .args .store))) _ _ (c .before .before .before .before .before .before .before .before .before .before .before .before .before .before .before .before .before .before .before .before .before .before .before .before .before .before .before .before .before .u16-at .result) (c .before .before .before .before .before .before .before .before .before .before .before .before .before .before .before .before .before .before .before .before .before .before .before .before .before .before .before .before .u16-at2 .result) (c .before .before .before .before .before .before .before .before .before .before .before .before .before .before .before .before .before .before .before .before .before .before .before .before .before .before .before .byte-at .result) _ _ _ ok (rw (c .before .before .before .before .before .before .before .before .before .before .before .before .before .before .before .before .before .before .before .before .before .before .before .before .before .before .jump .ensures) (c .before .before .before .before .before .before .before .before .before .before .before .before .before .before .before .before .before .before .before .before .before .before .before .before .before .before .before .before .before .before .before .before .before .before .pre .1 .1)) (omega (arith, sm)) cl (rw (c .before .pop .ensures, c .before .before .take .ensures, c .before .before .before .charge .ensures) at (c .push .ensures)) (rw (c .before .before .before .before .before .before .before .before .before .before .before .before .before .before .before .before .body .ensures) at (c .before .before .before .before .before .before .before .before .before .before .before .before .before .before .run .ensures)) (rw (c .before .before .before .before .before .before .before .before .before .ending .ensures) at (c .before .before .before .before .before .before .before .before .outcome .ensures)) (c .before .before .before .before .before .before .save .ensures) (rw (c .before .before .before .before .before .before .before .before .before .before .before .before .before .before .before .before .before .before .e2 .given .1) at m)
+block-returns-2 t c = let cl = body-clear (account (c .before .before .before .before .before .before .before .before .before .before .before .before .before .before .before .before .before .before .before .before .before .before .before .before .before .jump .result)) _ _ _ _ _ (sym (rw (c .before .before .before .before .before .before .before .before .before .before .before .before .before .before .before .before .before .before .before .before .before .account .ensures) at (c .before .before .before .before .before .before .before .before .before .before .before .before .before .before .before .before .before .before .before .before .enter .ensures)) ∙ c .before .before .before .before .before .before .before .before .before .before .before .before .before .before .before .before .before .before .e2 .given .1) in let ok : Ok (c .before .before .before .before .before .before .before .before .before .before .before .before .before .before .before .before .before .before .before .before .before .before .before .before .before .jump .result) = rw (c .before .before .before .before .before .before .before .before .before .before .before .before .before .before .before .before .before .before .before .before .before .before .before .before .before .jump .ensures) (c .before .before .before .before .before .before .before .before .before .before .before .before .before .before .before .before .before .before .before .before .before .before .before .before .before .before .before .before .before .before .before .before .before .pre .1 .0) in let sm = body-some (lent (account (c .before .before .before .before .before .before .before .before .before .before .before .before .before .before .before .before .before .before .before .before .before .before .before .before .before .jump .result))) _ _ _ _ _ (sym (rw (c .before .before .before .before .before .before .before .before .before .before .before .before .before .before .before .before .before .before .before .before .before .account .ensures) at (c .before .before .before .before .before .before .before .before .before .before .before .before .before .before .before .before .before .before .before .before .enter .ensures)) ∙ c .before .before .before .before .before .before .before .before .before .before .before .before .before .before .before .before .before .before .e2 .given .1) in let code = now (c .before .before .before .before .before .before .before .before .before .before .before .before .before .before .before .before .before .before .before .before .before .before .before .before .before .before .before .before .before .before .before .before .before .args .code) in let ws = now (c .before .before .before .before .before .before .before .before .before .before .before .before .before .before .before .before .before .before .before .before .before .before .before .before .before .before .before .before .before .before .before .before .before .args .labels) in let rs = now (c .before .before .before .before .before .before .before .before .before .before .before .before .before .before .before .before .before .before .before .before .before .before .before .before .before .before .before .before .before .before .before .before .before .args .records) in let m = block-found code ws rs (c .before .before .before .before .before .before .before .before .before .before .before .before .before .before .before .before .before .before .before .before .before .before .before .before .before .before .before .before .before .before .before .before .before .args .t1) (c .before .before .before .before .before .before .before .before .before .before .before .before .before .before .before .before .before .before .before .before .before .before .before .before .before .jump .result) (runs (program code ws rs)) (slots (now (c .before .before .before .before .before .before .before .before .before .before .before .before .before .before .before .before .before .before .before .before .before .before .before .before .before .before .before .before .before .before .before .before .before .args .store))) (c .before .before .before .before .before .before .before .before .before .before .before .before .before .before .before .before .before .before .before .before .before .before .before .before .before .before .before .before .u16-at .result) (c .before .before .before .before .before .before .before .before .before .before .before .before .before .before .before .before .before .before .before .before .before .before .before .before .before .before .before .u16-at2 .result) (c .before .before .before .before .before .before .before .before .before .before .before .before .before .before .before .before .before .before .before .before .before .before .before .before .before .before .byte-at .result) (c .before .before .before .before .before .before .before .before .before .before .before .before .before .before .before .before .before .before .before .before .before .before .before .before .least .result) (c .before .before .before .before .before .before .before .before .before .before .before .before .before .before .before .before .before .before .before .before .before .before .present .result) (c .before .before .before .before .before .before .before .before .before .before .before .before .before .before .before .before .before .before .before .before .enter .result) (c .before .before .before .before .before .before .before .before .before .before .before .before .before .before .before .before .before .before .before .before .before .before .before .before .before .before .before .before .before .before .before .before .before .pre .1 .3) (c .before .before .before .before .before .before .before .before .before .before .before .before .before .before .before .before .before .before .before .before .before .before .before .before .before .before .before .before .before .before .before .before .before .pre .1 .0) (c .before .before .before .before .before .before .before .before .before .before .before .before .before .before .before .before .before .before .before .before .before .before .before .before .before .jump .ensures) (c .before .before .before .before .before .before .before .before .before .before .before .before .before .before .before .before .before .before .before .before .before .before .before .before .before .before .before .before .u16-at .ensures) (c .before .before .before .before .before .before .before .before .before .before .before .before .before .before .before .before .before .before .before .before .before .before .before .before .before .before .before .u16-at2 .ensures) (c .before .before .before .before .before .before .before .before .before .before .before .before .before .before .before .before .before .before .before .before .before .before .before .before .before .before .byte-at .ensures) (c .before .before .before .before .before .before .before .before .before .before .before .before .before .before .before .before .before .before .before .before .before .before .before .before .least .ensures) (c .before .before .before .before .before .before .before .before .before .before .before .before .before .before .before .before .before .before .before .before .before .before .present .ensures) (rw (c .before .before .before .before .before .before .before .before .before .before .before .before .before .before .before .before .before .before .before .before .before .account .ensures) at (c .before .before .before .before .before .before .before .before .before .before .before .before .before .before .before .before .before .before .before .before .enter .ensures)) in left-ran code ws rs (runs (program code ws rs)) (c .before .before .before .before .before .before .before .before .before .before .before .before .before .before .before .before .before .before .before .before .before .before .before .before .before .jump .result) (c .before .before .before .before .before .before .before .before .before .before .before .before .before .before .run .result) _ (slots (now (c .before .before .before .before .before .before .before .before .before .before .before .before .before .before .before .before .before .before .before .before .before .before .before .before .before .before .before .before .before .before .before .before .before .args .store))) _ _ (c .before .before .before .before .before .before .before .before .before .before .before .before .before .before .before .before .before .before .before .before .before .before .before .before .before .before .before .before .u16-at .result) (c .before .before .before .before .before .before .before .before .before .before .before .before .before .before .before .before .before .before .before .before .before .before .before .before .before .before .before .u16-at2 .result) (c .before .before .before .before .before .before .before .before .before .before .before .before .before .before .before .before .before .before .before .before .before .before .before .before .before .before .byte-at .result) _ _ _ ok (rw (c .before .before .before .before .before .before .before .before .before .before .before .before .before .before .before .before .before .before .before .before .before .before .before .before .before .jump .ensures) (c .before .before .before .before .before .before .before .before .before .before .before .before .before .before .before .before .before .before .before .before .before .before .before .before .before .before .before .before .before .before .before .before .before .pre .1 .1)) (omega (arith, sm)) cl (rw (c .before .pop .ensures, c .before .before .take .ensures, c .before .before .before .charge .ensures) at (c .push .ensures)) (rw (c .before .before .before .before .before .before .before .before .before .before .before .before .before .before .before .before .body .ensures) at (c .before .before .before .before .before .before .before .before .before .before .before .before .before .before .run .ensures)) (rw (c .before .before .before .before .before .before .before .before .before .ending .ensures) at (c .before .before .before .before .before .before .before .before .outcome .ensures)) (c .before .before .before .before .before .before .save .ensures) (rw (c .before .before .before .before .before .before .before .before .before .before .before .before .before .before .before .before .before .before .e2 .given .1) at m)
 
 abbrev run-Inv-loop : run-lts.InvT-loop
 run-Inv-loop self₀ code labels records store₀ self store = Ok self × (length store ≡ words) × (self .steps ≤ self₀ .steps) × (rest code labels records self (slots store) ≡ runOf code labels records self₀ (slots store₀))
@@ -1254,243 +1394,258 @@ run-Inv-loop self₀ code labels records store₀ self store = Ok self × (lengt
 abbrev run-μ-loop : run-lts.MeasureT-loop
 run-μ-loop self₀ code labels records store₀ self store = self .steps
 
+-- src/lib.rt:474:9
 run-loop-holds : (t : ℕ) → run-lts.Need-loop-holds (
   live-reads.Asked,
   live-reads.Learnt,
   end-reads.Asked,
   end-reads.Learnt,
-  charge-reads.Asked,
-  charge-reads.Learnt,
   byte-at-reads.Asked,
   byte-at-reads.Learnt,
+  charge-reads.Asked,
+  charge-reads.Learnt,
   block-below t,
   block.Post,
-  plain-reads.Asked,
-  plain-reads.Learnt,
+  advance-reads.Asked,
+  advance-reads.Learnt,
 ) (run-at t) run.Post run-Inv-loop run-μ-loop
 run-loop-holds t c = let code = now (c .before .before .before .before .args .code) in let ws = now (c .before .before .before .before .args .labels) in let rs = now (c .before .before .before .before .args .records) in (c .before .before .before .before .pre .1 .0, c .before .before .before .before .pre .1 .2 .store, le-refl _, rest-live code ws rs (c .before .before .before .before .args .self) (slots (now (c .before .before .before .before .args .store))) (c .before .before .before .before .pre .1 .1))
 
+-- src/lib.rt:474:15
 run-live-requires : (t : ℕ) → run-lts.Need-live-requires (
   live-reads.Asked,
   live-reads.Learnt,
   end-reads.Asked,
   end-reads.Learnt,
-  charge-reads.Asked,
-  charge-reads.Learnt,
   byte-at-reads.Asked,
   byte-at-reads.Learnt,
+  charge-reads.Asked,
+  charge-reads.Learnt,
   block-below t,
   block.Post,
-  plain-reads.Asked,
-  plain-reads.Learnt,
+  advance-reads.Asked,
+  advance-reads.Learnt,
 ) (run-at t) run.Post run-Inv-loop run-μ-loop
 run-live-requires t c κs = search needs
 
+-- src/lib.rt:477:17
 run-end-requires : (t : ℕ) → run-lts.Need-end-requires (
   live-reads.Asked,
   live-reads.Learnt,
   end-reads.Asked,
   end-reads.Learnt,
-  charge-reads.Asked,
-  charge-reads.Learnt,
   byte-at-reads.Asked,
   byte-at-reads.Learnt,
+  charge-reads.Asked,
+  charge-reads.Learnt,
   block-below t,
   block.Post,
-  plain-reads.Asked,
-  plain-reads.Learnt,
+  advance-reads.Asked,
+  advance-reads.Learnt,
 ) (run-at t) run.Post run-Inv-loop run-μ-loop
 run-end-requires t c κs = search needs
 
+-- src/lib.rt:477:17
 run-same-length : (t : ℕ) → run-lts.Need-same-length (
   live-reads.Asked,
   live-reads.Learnt,
   end-reads.Asked,
   end-reads.Learnt,
-  charge-reads.Asked,
-  charge-reads.Learnt,
   byte-at-reads.Asked,
   byte-at-reads.Learnt,
+  charge-reads.Asked,
+  charge-reads.Learnt,
   block-below t,
   block.Post,
-  plain-reads.Asked,
-  plain-reads.Learnt,
+  advance-reads.Asked,
+  advance-reads.Learnt,
 ) (run-at t) run.Post run-Inv-loop run-μ-loop
-run-same-length t c = c .before .before .before .before .before .loop .inv .1 ∙ sym (c .before .before .before .before .before .before .before .before .before .before .pre .1 .2 .store)
+run-same-length t c = c .before .before .before .before .loop .inv .1 ∙ sym (c .before .before .before .before .before .before .before .before .before .pre .1 .2 .store)
 
+-- src/lib.rt:477:17
 run-returns : (t : ℕ) → run-lts.Need-returns (
   live-reads.Asked,
   live-reads.Learnt,
   end-reads.Asked,
   end-reads.Learnt,
-  charge-reads.Asked,
-  charge-reads.Learnt,
   byte-at-reads.Asked,
   byte-at-reads.Learnt,
-  block-below t,
-  block.Post,
-  plain-reads.Asked,
-  plain-reads.Learnt,
-) (run-at t) run.Post run-Inv-loop run-μ-loop
-run-returns t c = let i = c .before .before .before .before .before .loop .inv in let code = now (c .before .before .before .before .before .before .before .before .before .before .args .code) in let ws = now (c .before .before .before .before .before .before .before .before .before .before .args .labels) in let rs = now (c .before .before .before .before .before .before .before .before .before .before .args .records) in rw (c .end .ensures) (rest-spent code ws rs (c .before .before .before .before .before .loop .self) (slots (c .before .before .before .before .before .loop .store)) (live-true _ (sym (c .before .before .before .before .live .ensures) ∙ c .before .before .before .if1 .taken)) (c .before .if2 .taken) ∙ i .3)
-
-run-charge-requires : (t : ℕ) → run-lts.Need-charge-requires (
-  live-reads.Asked,
-  live-reads.Learnt,
-  end-reads.Asked,
-  end-reads.Learnt,
   charge-reads.Asked,
   charge-reads.Learnt,
-  byte-at-reads.Asked,
-  byte-at-reads.Learnt,
   block-below t,
   block.Post,
-  plain-reads.Asked,
-  plain-reads.Learnt,
+  advance-reads.Asked,
+  advance-reads.Learnt,
 ) (run-at t) run.Post run-Inv-loop run-μ-loop
-run-charge-requires t c κs = omega (arith, c .if2 .left)
+run-returns t c = let i = c .before .before .before .before .loop .inv in let code = now (c .before .before .before .before .before .before .before .before .before .args .code) in let ws = now (c .before .before .before .before .before .before .before .before .before .args .labels) in let rs = now (c .before .before .before .before .before .before .before .before .before .args .records) in rw (c .end .ensures) (rest-spent code ws rs (c .before .before .before .before .loop .self) (slots (c .before .before .before .before .loop .store)) (live-true _ (sym (c .before .before .before .live .ensures) ∙ c .before .before .if1 .taken)) (c .before .if2 .taken) ∙ i .3)
 
+-- src/lib.rt:480:16
 run-byte-at-requires : (t : ℕ) → run-lts.Need-byte-at-requires (
   live-reads.Asked,
   live-reads.Learnt,
   end-reads.Asked,
   end-reads.Learnt,
-  charge-reads.Asked,
-  charge-reads.Learnt,
   byte-at-reads.Asked,
   byte-at-reads.Learnt,
+  charge-reads.Asked,
+  charge-reads.Learnt,
   block-below t,
   block.Post,
-  plain-reads.Asked,
-  plain-reads.Learnt,
+  advance-reads.Asked,
+  advance-reads.Learnt,
 ) (run-at t) run.Post run-Inv-loop run-μ-loop
 run-byte-at-requires t c κs = search needs
 
+-- src/lib.rt:481:17
+run-charge-requires : (t : ℕ) → run-lts.Need-charge-requires (
+  live-reads.Asked,
+  live-reads.Learnt,
+  end-reads.Asked,
+  end-reads.Learnt,
+  byte-at-reads.Asked,
+  byte-at-reads.Learnt,
+  charge-reads.Asked,
+  charge-reads.Learnt,
+  block-below t,
+  block.Post,
+  advance-reads.Asked,
+  advance-reads.Learnt,
+) (run-at t) run.Post run-Inv-loop run-μ-loop
+run-charge-requires t c κs = omega (arith, c .before .before .if2 .left)
+
+-- src/lib.rt:482:17
 run-block-requires : (t : ℕ) → run-lts.Need-block-requires (
   live-reads.Asked,
   live-reads.Learnt,
   end-reads.Asked,
   end-reads.Learnt,
-  charge-reads.Asked,
-  charge-reads.Learnt,
   byte-at-reads.Asked,
   byte-at-reads.Learnt,
+  charge-reads.Asked,
+  charge-reads.Learnt,
   block-below t,
   block.Post,
-  plain-reads.Asked,
-  plain-reads.Learnt,
+  advance-reads.Asked,
+  advance-reads.Learnt,
 ) (run-at t) run.Post run-Inv-loop run-μ-loop
-run-block-requires t c κs = let i = c .before .before .before .before .before .before .before .before .loop .inv in rw (c .before .before .before .charge .ensures) (omega (arith, i .2, c .before .before .before .before .if2 .left, c .before .before .before .before .before .before .before .before .before .before .before .before .before .pre .0), (i .0, live-true _ (sym (c .before .before .before .before .before .before .before .live .ensures) ∙ c .before .before .before .before .before .before .if1 .taken), record { code = c .before .before .before .before .before .before .before .before .before .before .before .before .before .pre .1 .2 .code; labels = c .before .before .before .before .before .before .before .before .before .before .before .before .before .pre .1 .2 .labels; store = i .1 }, rw (c .before .before .before .charge .ensures) at (sym (c .before .before .byte-at .ensures) ∙ c .before .if3 .taken)))
+run-block-requires t c κs = let i = c .before .before .before .before .before .before .before .loop .inv in rw (c .before .charge .ensures) (omega (arith, i .2, c .before .before .before .before .if2 .left, c .before .before .before .before .before .before .before .before .before .before .before .before .pre .0), (i .0, live-true _ (sym (c .before .before .before .before .before .before .live .ensures) ∙ c .before .before .before .before .before .if1 .taken), record { code = c .before .before .before .before .before .before .before .before .before .before .before .before .pre .1 .2 .code; labels = c .before .before .before .before .before .before .before .before .before .before .before .before .pre .1 .2 .labels; store = i .1 }, sym (c .before .before .before .byte-at .ensures) ∙ c .before .before .if3 .taken))
 
+-- src/lib.rt:474:9
 run-loop-less : (t : ℕ) → run-lts.Need-loop-less (
   live-reads.Asked,
   live-reads.Learnt,
   end-reads.Asked,
   end-reads.Learnt,
-  charge-reads.Asked,
-  charge-reads.Learnt,
   byte-at-reads.Asked,
   byte-at-reads.Learnt,
+  charge-reads.Asked,
+  charge-reads.Learnt,
   block-below t,
   block.Post,
-  plain-reads.Asked,
-  plain-reads.Learnt,
+  advance-reads.Asked,
+  advance-reads.Learnt,
 ) (run-at t) run.Post run-Inv-loop run-μ-loop
-run-loop-less t c = let i = c .before .before .before .before .before .before .before .before .before .before .before .loop .inv in let code = now (c .before .before .before .before .before .before .before .before .before .before .before .before .before .before .before .before .args .code) in let ws = now (c .before .before .before .before .before .before .before .before .before .before .before .before .before .before .before .before .args .labels) in let rs = now (c .before .before .before .before .before .before .before .before .before .before .before .before .before .before .before .before .args .records) in steps-fall code ws rs (c .before .before .before .before .before .before .before .before .before .before .before .loop .self) (c .before .before .block .result) _ _ (rw (c .before .before .before .before .before .before .charge .ensures) at (c .before .before .block .ensures)) (omega (arith, c .before .before .before .before .before .before .before .if2 .left))
+run-loop-less t c = let i = c .before .before .before .before .before .before .before .before .before .before .loop .inv in let code = now (c .before .before .before .before .before .before .before .before .before .before .before .before .before .before .before .args .code) in let ws = now (c .before .before .before .before .before .before .before .before .before .before .before .before .before .before .before .args .labels) in let rs = now (c .before .before .before .before .before .before .before .before .before .before .before .before .before .before .before .args .records) in steps-fall code ws rs (c .before .before .before .before .before .before .before .before .before .before .loop .self) (c .before .before .block .result) _ _ (rw (c .before .before .before .before .charge .ensures) at (c .before .before .block .ensures)) (omega (arith, c .before .before .before .before .before .before .before .if2 .left))
 
+-- src/lib.rt:474:9
 run-loop-again : (t : ℕ) → run-lts.Need-loop-again (
   live-reads.Asked,
   live-reads.Learnt,
   end-reads.Asked,
   end-reads.Learnt,
-  charge-reads.Asked,
-  charge-reads.Learnt,
   byte-at-reads.Asked,
   byte-at-reads.Learnt,
+  charge-reads.Asked,
+  charge-reads.Learnt,
   block-below t,
   block.Post,
-  plain-reads.Asked,
-  plain-reads.Learnt,
+  advance-reads.Asked,
+  advance-reads.Learnt,
 ) (run-at t) run.Post run-Inv-loop run-μ-loop
-run-loop-again t c = let i = c .before .before .before .before .before .before .before .before .before .before .before .loop .inv in let code = now (c .before .before .before .before .before .before .before .before .before .before .before .before .before .before .before .before .args .code) in let ws = now (c .before .before .before .before .before .before .before .before .before .before .before .before .before .before .before .before .args .labels) in let rs = now (c .before .before .before .before .before .before .before .before .before .before .before .before .before .before .before .before .args .records) in let f = steps-fall code ws rs (c .before .before .before .before .before .before .before .before .before .before .before .loop .self) (c .before .before .block .result) _ _ (rw (c .before .before .before .before .before .before .charge .ensures) at (c .before .before .block .ensures)) (omega (arith, c .before .before .before .before .before .before .before .if2 .left)) in (c .before .before .block .ensures .ok, c .before .before .block .kept .1 .1 .1 .1 .0 ∙ i .1, omega (arith, f, i .2), rest-step code ws rs (c .before .before .before .before .before .before .before .before .before .before .before .loop .self) (c .before .before .block .result) _ _ (rw (c .before .before .before .before .before .before .charge .ensures) at (c .before .before .block .ensures)) (live-true _ (sym (c .before .before .before .before .before .before .before .before .before .before .live .ensures) ∙ c .before .before .before .before .before .before .before .before .before .if1 .taken)) (omega (arith, c .before .before .before .before .before .before .before .if2 .left)) ∙ i .3)
+run-loop-again t c = let i = c .before .before .before .before .before .before .before .before .before .before .loop .inv in let code = now (c .before .before .before .before .before .before .before .before .before .before .before .before .before .before .before .args .code) in let ws = now (c .before .before .before .before .before .before .before .before .before .before .before .before .before .before .before .args .labels) in let rs = now (c .before .before .before .before .before .before .before .before .before .before .before .before .before .before .before .args .records) in let f = steps-fall code ws rs (c .before .before .before .before .before .before .before .before .before .before .loop .self) (c .before .before .block .result) _ _ (rw (c .before .before .before .before .charge .ensures) at (c .before .before .block .ensures)) (omega (arith, c .before .before .before .before .before .before .before .if2 .left)) in (c .before .before .block .ensures .ok, c .before .before .block .kept .1 .1 .1 .1 .0 ∙ i .1, omega (arith, f, i .2), rest-step code ws rs (c .before .before .before .before .before .before .before .before .before .before .loop .self) (c .before .before .block .result) _ _ (rw (c .before .before .before .before .charge .ensures) at (c .before .before .block .ensures)) (live-true _ (sym (c .before .before .before .before .before .before .before .before .before .live .ensures) ∙ c .before .before .before .before .before .before .before .before .if1 .taken)) (omega (arith, c .before .before .before .before .before .before .before .if2 .left)) ∙ i .3)
 
-run-plain-requires : (t : ℕ) → run-lts.Need-plain-requires (
+-- src/lib.rt:484:17
+run-advance-requires : (t : ℕ) → run-lts.Need-advance-requires (
   live-reads.Asked,
   live-reads.Learnt,
   end-reads.Asked,
   end-reads.Learnt,
-  charge-reads.Asked,
-  charge-reads.Learnt,
   byte-at-reads.Asked,
   byte-at-reads.Learnt,
+  charge-reads.Asked,
+  charge-reads.Learnt,
   block-below t,
   block.Post,
-  plain-reads.Asked,
-  plain-reads.Learnt,
+  advance-reads.Asked,
+  advance-reads.Learnt,
 ) (run-at t) run.Post run-Inv-loop run-μ-loop
-run-plain-requires t c κs = let i = c .before .before .before .before .before .before .before .before .loop .inv in rw (c .before .before .before .charge .ensures) (i .0, live-true _ (sym (c .before .before .before .before .before .before .before .live .ensures) ∙ c .before .before .before .before .before .before .if1 .taken), record { code = c .before .before .before .before .before .before .before .before .before .before .before .before .before .pre .1 .2 .code; labels = c .before .before .before .before .before .before .before .before .before .before .before .before .before .pre .1 .2 .labels; store = i .1 }, λ z. c .before .if3 .left ((rw (c .before .before .before .charge .ensures) at (c .before .before .byte-at .ensures)) ∙ z))
+run-advance-requires t c κs = (c .before .before .before .before .before .before .loop .inv .0, record { code = c .before .before .before .before .before .before .before .before .before .before .before .pre .1 .2 .code; labels = c .before .before .before .before .before .before .before .before .before .before .before .pre .1 .2 .labels; store = c .before .before .before .before .before .before .loop .inv .1 })
 
+-- src/lib.rt:474:9
 run-loop-less-2 : (t : ℕ) → run-lts.Need-loop-less-2 (
   live-reads.Asked,
   live-reads.Learnt,
   end-reads.Asked,
   end-reads.Learnt,
-  charge-reads.Asked,
-  charge-reads.Learnt,
   byte-at-reads.Asked,
   byte-at-reads.Learnt,
+  charge-reads.Asked,
+  charge-reads.Learnt,
   block-below t,
   block.Post,
-  plain-reads.Asked,
-  plain-reads.Learnt,
+  advance-reads.Asked,
+  advance-reads.Learnt,
 ) (run-at t) run.Post run-Inv-loop run-μ-loop
-run-loop-less-2 t c = let i = c .before .before .before .before .before .before .before .before .before .before .before .loop .inv in let code = now (c .before .before .before .before .before .before .before .before .before .before .before .before .before .before .before .before .args .code) in let ws = now (c .before .before .before .before .before .before .before .before .before .before .before .before .before .before .before .before .args .labels) in let rs = now (c .before .before .before .before .before .before .before .before .before .before .before .before .before .before .before .before .args .records) in steps-fall code ws rs (c .before .before .before .before .before .before .before .before .before .before .before .loop .self) (c .before .before .plain .result) _ _ (rw (c .before .before .before .before .before .before .charge .ensures) at (c .before .before .plain .ensures)) (omega (arith, c .before .before .before .before .before .before .before .if2 .left))
+run-loop-less-2 t c = let h : Ready (now (c .before .before .before .before .before .before .before .before .before .before .before .before .before .before .args .code)) (now (c .before .before .before .before .before .before .before .before .before .before .before .before .before .before .args .labels)) (now (c .before .before .before .before .before .before .before .before .before .before .before .before .before .before .args .records)) (c .before .before .before .before .before .before .before .before .before .loop .self) = record { live = live-true _ (sym (c .before .before .before .before .before .before .before .before .live .ensures) ∙ c .before .before .before .before .before .before .before .if1 .taken); some = omega (arith, c .before .before .before .before .before .before .if2 .left); plain = not-block (now (c .before .before .before .before .before .before .before .before .before .before .before .before .before .before .args .code)) _ (λ z. c .before .before .before .before .if3 .left (c .before .before .before .before .before .byte-at .ensures ∙ z)) } in advanced-falls (now (c .before .before .before .before .before .before .before .before .before .before .before .before .before .before .args .code)) (now (c .before .before .before .before .before .before .before .before .before .before .before .before .before .before .args .labels)) (now (c .before .before .before .before .before .before .before .before .before .before .before .before .before .before .args .records)) (c .before .before .before .before .before .before .before .before .before .loop .self .steps) (c .before .before .before .before .before .before .before .before .before .loop .self) (c .before .before .advance .result) _ _ h (omega (arith, c .before .before .before .before .before .before .if2 .left)) (c .before .before .advance .ensures)
 
+-- src/lib.rt:474:9
 run-loop-again-2 : (t : ℕ) → run-lts.Need-loop-again-2 (
   live-reads.Asked,
   live-reads.Learnt,
   end-reads.Asked,
   end-reads.Learnt,
-  charge-reads.Asked,
-  charge-reads.Learnt,
   byte-at-reads.Asked,
   byte-at-reads.Learnt,
+  charge-reads.Asked,
+  charge-reads.Learnt,
   block-below t,
   block.Post,
-  plain-reads.Asked,
-  plain-reads.Learnt,
+  advance-reads.Asked,
+  advance-reads.Learnt,
 ) (run-at t) run.Post run-Inv-loop run-μ-loop
-run-loop-again-2 t c = let i = c .before .before .before .before .before .before .before .before .before .before .before .loop .inv in let code = now (c .before .before .before .before .before .before .before .before .before .before .before .before .before .before .before .before .args .code) in let ws = now (c .before .before .before .before .before .before .before .before .before .before .before .before .before .before .before .before .args .labels) in let rs = now (c .before .before .before .before .before .before .before .before .before .before .before .before .before .before .before .before .args .records) in let f = steps-fall code ws rs (c .before .before .before .before .before .before .before .before .before .before .before .loop .self) (c .before .before .plain .result) _ _ (rw (c .before .before .before .before .before .before .charge .ensures) at (c .before .before .plain .ensures)) (omega (arith, c .before .before .before .before .before .before .before .if2 .left)) in (c .before .before .plain .ensures .ok, c .before .before .plain .kept .1 .1 .1 .1 .0 ∙ i .1, omega (arith, f, i .2), rest-step code ws rs (c .before .before .before .before .before .before .before .before .before .before .before .loop .self) (c .before .before .plain .result) _ _ (rw (c .before .before .before .before .before .before .charge .ensures) at (c .before .before .plain .ensures)) (live-true _ (sym (c .before .before .before .before .before .before .before .before .before .before .live .ensures) ∙ c .before .before .before .before .before .before .before .before .before .if1 .taken)) (omega (arith, c .before .before .before .before .before .before .before .if2 .left)) ∙ i .3)
+run-loop-again-2 t c = let i = c .before .before .before .before .before .before .before .before .before .loop .inv in let h : Ready (now (c .before .before .before .before .before .before .before .before .before .before .before .before .before .before .args .code)) (now (c .before .before .before .before .before .before .before .before .before .before .before .before .before .before .args .labels)) (now (c .before .before .before .before .before .before .before .before .before .before .before .before .before .before .args .records)) (c .before .before .before .before .before .before .before .before .before .loop .self) = record { live = live-true _ (sym (c .before .before .before .before .before .before .before .before .live .ensures) ∙ c .before .before .before .before .before .before .before .if1 .taken); some = omega (arith, c .before .before .before .before .before .before .if2 .left); plain = not-block (now (c .before .before .before .before .before .before .before .before .before .before .before .before .before .before .args .code)) _ (λ z. c .before .before .before .before .if3 .left (c .before .before .before .before .before .byte-at .ensures ∙ z)) } in let f = advanced-falls (now (c .before .before .before .before .before .before .before .before .before .before .before .before .before .before .args .code)) (now (c .before .before .before .before .before .before .before .before .before .before .before .before .before .before .args .labels)) (now (c .before .before .before .before .before .before .before .before .before .before .before .before .before .before .args .records)) (c .before .before .before .before .before .before .before .before .before .loop .self .steps) (c .before .before .before .before .before .before .before .before .before .loop .self) (c .before .before .advance .result) _ _ h (omega (arith, c .before .before .before .before .before .before .if2 .left)) (c .before .before .advance .ensures) in (c .before .before .advance .ensures .ok, c .before .before .advance .kept .1 .1 .1 .1 .0 ∙ i .1, omega (arith, f, i .2), advanced-rest (now (c .before .before .before .before .before .before .before .before .before .before .before .before .before .before .args .code)) (now (c .before .before .before .before .before .before .before .before .before .before .before .before .before .before .args .labels)) (now (c .before .before .before .before .before .before .before .before .before .before .before .before .before .before .args .records)) (c .before .before .before .before .before .before .before .before .before .loop .self .steps) (c .before .before .before .before .before .before .before .before .before .loop .self) (c .before .before .advance .result) _ _ (c .before .before .advance .ensures) ∙ i .3)
 
+-- src/lib.rt:470:5
 run-same-length-2 : (t : ℕ) → run-lts.Need-same-length-2 (
   live-reads.Asked,
   live-reads.Learnt,
   end-reads.Asked,
   end-reads.Learnt,
-  charge-reads.Asked,
-  charge-reads.Learnt,
   byte-at-reads.Asked,
   byte-at-reads.Learnt,
+  charge-reads.Asked,
+  charge-reads.Learnt,
   block-below t,
   block.Post,
-  plain-reads.Asked,
-  plain-reads.Learnt,
+  advance-reads.Asked,
+  advance-reads.Learnt,
 ) (run-at t) run.Post run-Inv-loop run-μ-loop
 run-same-length-2 t c = c .before .before .loop .inv .1 ∙ sym (c .before .before .before .before .before .before .before .pre .1 .2 .store)
 
+-- src/lib.rt:470:5
 run-returns-2 : (t : ℕ) → run-lts.Need-returns-2 (
   live-reads.Asked,
   live-reads.Learnt,
   end-reads.Asked,
   end-reads.Learnt,
-  charge-reads.Asked,
-  charge-reads.Learnt,
   byte-at-reads.Asked,
   byte-at-reads.Learnt,
+  charge-reads.Asked,
+  charge-reads.Learnt,
   block-below t,
   block.Post,
-  plain-reads.Asked,
-  plain-reads.Learnt,
+  advance-reads.Asked,
+  advance-reads.Learnt,
 ) (run-at t) run.Post run-Inv-loop run-μ-loop
 run-returns-2 t c = let i = c .before .before .loop .inv in let code = now (c .before .before .before .before .before .before .before .args .code) in let ws = now (c .before .before .before .before .before .before .before .args .labels) in let rs = now (c .before .before .before .before .before .before .before .args .records) in rest-dead code ws rs (c .before .before .loop .self) (slots (c .before .before .loop .store)) (sym (c .before .live .ensures) ∙ c .if1 .left) ∙ i .3
 
@@ -1506,6 +1661,8 @@ pub +block+run-spec : {M : Type 1} → statement M
   least-reads.Learnt,
   present-reads.Asked,
   present-reads.Learnt,
+  account-reads.Asked,
+  account-reads.Learnt,
   enter-reads.Asked,
   enter-reads.Learnt,
   fail-reads.Asked,
@@ -1546,6 +1703,7 @@ pub +block+run-spec : {M : Type 1} → statement M
     (block-mul-y t)
     (block-element-copy-out-y t)
     (block-present-requires t)
+    (block-account-requires t)
     (block-sub-enter t)
     (block-enter-requires t)
     (block-enum-known-e t)
@@ -1569,14 +1727,14 @@ pub +block+run-spec : {M : Type 1} → statement M
       live-reads.Learnt,
       end-reads.Asked,
       end-reads.Learnt,
-      charge-reads.Asked,
-      charge-reads.Learnt,
       byte-at-reads.Asked,
       byte-at-reads.Learnt,
+      charge-reads.Asked,
+      charge-reads.Learnt,
       block-below t,
       block.Post,
-      plain-reads.Asked,
-      plain-reads.Learnt,
+      advance-reads.Asked,
+      advance-reads.Learnt,
     )
     (run-at t)
     run.Post
@@ -1587,12 +1745,12 @@ pub +block+run-spec : {M : Type 1} → statement M
     (run-end-requires t)
     (run-same-length t)
     (run-returns t)
-    (run-charge-requires t)
     (run-byte-at-requires t)
+    (run-charge-requires t)
     (run-block-requires t)
     (run-loop-less t)
     (run-loop-again t)
-    (run-plain-requires t)
+    (run-advance-requires t)
     (run-loop-less-2 t)
     (run-loop-again-2 t)
     (run-same-length-2 t)
