@@ -21,6 +21,6 @@ module _ {A : Type 0} where
   cond-one G true f g = f refl
   cond-one G false f g = g refl
 
-  pub cond-two : (G : A → A → Type 0) (b : Bool) {x y x′ y′ : A} → (b ≡ true → G x x′) → (b ≡ false → G y y′) → G (cond b x y) (cond b x′ y′)
+  pub cond-two : {B : Type 0} (G : A → B → Type 0) (b : Bool) {x y : A} {x′ y′ : B} → (b ≡ true → G x x′) → (b ≡ false → G y y′) → G (cond b x y) (cond b x′ y′)
   cond-two G true f g = f refl
   cond-two G false f g = g refl
