@@ -14,7 +14,8 @@ use Rattle.model.specs.Running.{runs, startControl, startAccount, startStore}
 use Rattle.model.specs.declared.Slot.the-variants.{Empty}
 use Rattle.machine.specs.State.{outcomeOf, endingOf}
 use Rattle.machine.specs.declared.State.{State}
-use Rattle.operands.specs.Program.{labelAt as labelIn, count, program}
+use Rattle.model.specs.Words.{labelIn}
+use Rattle.operands.specs.Program.{count, program}
 use Rattle.store.specs.Chunks.{parts}
 use Rattle.store.specs.Slots.{slots}
 use Rattle.script_file.specs.Sections.{header, recordBytes, codeBytes, fileLabels, orNone, labelAt}

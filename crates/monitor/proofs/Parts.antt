@@ -10,7 +10,8 @@ use Rattle.labels.specs.Order.{flows, join, meet}
 use Rattle.model.specs.State.{Program}
 use Rattle.model.specs.Decoding.{fetch, after}
 use Rattle.model.specs.Inputs.{inputs, handles}
-use Rattle.operands.specs.Program.{labelAt as labelIn, count, program}
+use Rattle.model.specs.Words.{labelIn}
+use Rattle.operands.specs.Program.{count, program}
 use Rattle.script_file.specs.Sections.{header, recordBytes, codeBytes, fileLabels, orNone, labelAt}
 use Rattle.script_file.specs.Checks.{countsOk, passes2, refusal}
 use Rattle.script_file.specs.Loading.{labelWords}
@@ -29,7 +30,6 @@ module _ (bs : List ℕ) (ok : refusal bs ≡ 0) where
   ordered = in-place bs ok
 
   pub labels-are : labelIn (labelWords (orNone (fileLabels bs))) ≡ labelAt bs
-  unfolding labelIn
   labels-are = fun-ext (words-are-labels bs ok)
 
   -- the input records, from their offset to the code's

@@ -13,7 +13,7 @@ ghost use Prim.Native.Nat.{_*_, _/_, _≤_, _<_};
 ghost use lib.ListN.{length};
 ghost use Rattle.model.specs.Inputs.{kindOf, inputs, inputSlots};
 ghost use Rattle.model.specs.Running.{startStore};
-ghost use Rattle.operands.specs.Program.{labelAt as labelIn};
+ghost use Rattle.model.specs.Words.{labelIn};
 ghost use Rattle.store.specs.Slots.{words, slots};
 ghost use Rattle.view.specs.Layout.{view as viewOf};
 ghost use Rattle.view.specs.Reading.{reading, show as shows};

@@ -1,4 +1,4 @@
--- What a file's parts are to the machine: the order is that of labels, label i is words 2i and 2i + 1.
+-- What a file's parts are to the machine: code, labels as words, input records.
 use mathlib.Core.Path.{_≡_, refl, sym, ap, _∙_}
 use mathlib.Core.Bool.{Bool, true, false, cond}
 use mathlib.Core.List.{List, [], _∷_}
@@ -17,9 +17,7 @@ use Rattle.model.specs.declared.Datum.the-variants.{Number, Handle}
 use Rattle.model.specs.State.{Program, value, number}
 use Rattle.model.specs.Decoding.{byte, fetch, after}
 use Rattle.model.specs.Inputs.{kindOf, inputs, handles}
-
-unfoldable pub labelAt : List ℕ → ℕ → Label
-labelAt ws i = record { secrecy = getD ws (2 * i) 0; integrity = getD ws (2 * i + 1) 0 }
+use Rattle.model.specs.Words.{labelIn}
 
 -- how many input records there are in a list of bytes
 abbrev pub count : List ℕ → ℕ
@@ -33,16 +31,16 @@ program code ws rs =
       meet = meet;
       fetch = fetch code;
       after = after code;
-      labels = labelAt ws;
-      inputs = handles 0 (inputs (labelAt ws) rs (count rs) 0);
+      labels = labelIn ws;
+      inputs = handles 0 (inputs (labelIn ws) rs (count rs) 0);
     }
 
 -- what INPUT pushes
 unfoldable pub inputAt : List ℕ → ℕ → Datum
 inputAt rs i = cond (ltb i (count rs)) (Handle (kindOf (byte rs (6 * i))) i) (Number 0)
 
-pub label-out : (ws : List ℕ) (i : ℕ) → length ws ≤ i → record { secrecy = 0; integrity = 0 } ≡ labelAt ws i
-unfolding labelAt
+pub label-out : (ws : List ℕ) (i : ℕ) → length ws ≤ i → record { secrecy = 0; integrity = 0 } ≡ labelIn ws i
+unfolding labelIn
 label-out ws i h =
     let a : length ws ≤ 2 * i = omega arith in
     let b : length ws ≤ 2 * i + 1 = omega arith in
@@ -79,8 +77,8 @@ input-out rs i h = rw (le-ltb i (count rs) h)
 pub input-at : (code ws rs : List ℕ) (i : ℕ) → inputAt rs i ≡ getD (program code ws rs .inputs) i (number 0) .datum
 unfolding program
 input-at code ws rs i = test (ltb i (count rs)) refl where
-  test : (b : Bool) → ltb i (count rs) ≡ b → inputAt rs i ≡ getD (handles 0 (inputs (labelAt ws) rs (count rs) 0)) i (number 0) .datum
+  test : (b : Bool) → ltb i (count rs) ≡ b → inputAt rs i ≡ getD (handles 0 (inputs (labelIn ws) rs (count rs) 0)) i (number 0) .datum
   test true e =
-      sym (input-in rs i (ltb-true i (count rs) e)) ∙ ap (λ (v : Value). v .datum) (sym (rw (zero-add (6 * i), zero-add i) at (input-handle (labelAt ws) rs (count rs) 0 0 i (ltb-true i (count rs) e))))
+      sym (input-in rs i (ltb-true i (count rs) e)) ∙ ap (λ (v : Value). v .datum) (sym (rw (zero-add (6 * i), zero-add i) at (input-handle (labelIn ws) rs (count rs) 0 0 i (ltb-true i (count rs) e))))
   test false e =
-      sym (input-out rs i (ltb-false i (count rs) e)) ∙ ap (λ (v : Value). v .datum) (sym (input-none (labelAt ws) rs (count rs) 0 0 i (ltb-false i (count rs) e)))
+      sym (input-out rs i (ltb-false i (count rs) e)) ∙ ap (λ (v : Value). v .datum) (sym (input-none (labelIn ws) rs (count rs) 0 0 i (ltb-false i (count rs) e)))

@@ -8,7 +8,8 @@ ghost use mathlib.Core.Path.{_≡_};
 ghost use Prim.Native.Nat.{_^_, _<_, _≤_, _+_};
 ghost use lib.ListN.{length, getD};
 ghost use Rattle.model.specs.Operands.{truth};
-ghost use Rattle.operands.specs.Program.{labelAt, inputAt};
+ghost use Rattle.model.specs.Words.{labelIn};
+ghost use Rattle.operands.specs.Program.{inputAt};
 ghost use Rattle.operands.specs.Plans.{numbersOf, addOf, subOf, lessOf, sameOf, branchOf, labelsOf, flowsOf, joinOf, meetOf, onNumber, onLabel, onHandle, onSealed, onReference, tryOf, doneOf, operateOf, planOf};
 
 // What is left to be done once the operands are dropped. BLOCK is not among these: it needs a run.
@@ -287,7 +288,7 @@ fn done(frames: usize) -> Plan
 // Label i of the file: words 2i and 2i + 1; past the end stands 0.
 pub fn label_at(labels: &[u64], i: usize) -> Label
     requires { ⌜ length (now labels) < 2 ^ 32 ⌝ }
-    ensures { λ r. ⌜ r ≡ labelAt (now (labels .entry)) i ⌝ }
+    ensures { λ r. ⌜ r ≡ labelIn (now (labels .entry)) i ⌝ }
 {
     if labels.len() <= i {
         return Label {

@@ -7,11 +7,12 @@ use native.Mathlib.Omega.{arith}
 use lib.ListN.{length, take, drop}
 use borrow.Rule.Slice.PartAt.{part-to-end}
 use Rattle.labels.specs.Order.{flows}
+use Rattle.model.specs.Words.{labelIn}
 use Rattle.script_file.specs.Sections.{header, labelBytes, recordBytes, codeBytes, readLabels, fileLabels, labelAt, orNone}
 use Rattle.script_file.specs.Sweep.{codeOk}
 use Rattle.script_file.specs.Checks.{sizeOk, countsOk, offsetsOk, recordsOk, passes1, passes2, passes3, passes4, passes5, passes6, passes7, refusal}
 use Rattle.script_file.specs.Loading.{labelWords}
-use Rattle.script_file.specs.Parts.{tableOf, labelIn}
+use Rattle.script_file.specs.Parts.{tableOf}
 use Rattle.script_file.specs.declared.Header.{Header}
 use Rattle.script_file.specs.declared.Table.{Table}
 use Rattle.script_file.proofs.Labels.{words-hold, words-hold-any, labels-few}

@@ -13,9 +13,10 @@ use Rattle.labels.specs.declared.Label.{Label}
 use Rattle.labels.specs.declared.Entry.{Entry}
 use Rattle.labels.specs.declared.Entry.the-variants.{Read, Malformed}
 use Rattle.labels.proofs.Reading.{well-formed, found}
+use Rattle.model.specs.Words.{labelIn}
 use Rattle.script_file.specs.Sections.{consLabel, labelsAfter, readLabels, orNone}
 use Rattle.script_file.specs.Loading.{tables, padded, labelWords}
-use Rattle.script_file.specs.Parts.{tableOf, labelIn}
+use Rattle.script_file.specs.Parts.{tableOf}
 use Rattle.script_file.specs.declared.Table.{Table}
 
 -- an entry that is read lies within the bytes
@@ -95,6 +96,7 @@ abbrev pub noLabel : Label
 noLabel = record { secrecy = 0; integrity = 0 }
 
 tables-at : (ls : List Label) (i : ℕ) → labelIn (tables ls) i ≡ getD ls i noLabel
+unfolding labelIn
 tables-at [] i = refl
 tables-at (l ∷ ls) zero = refl
 tables-at (l ∷ ls) (suc i) =
@@ -111,7 +113,7 @@ padded-at (suc n) (x ∷ xs) (suc k) h = padded-at n xs k (omega arith)
 
 -- label i of a file stands at words 2 i and 2 i + 1
 pub words-hold : (ls : List Label) (i : ℕ) → i < 32 → labelIn (labelWords ls) i ≡ getD ls i noLabel
-unfolding labelWords
+unfolding labelIn labelWords
 words-hold ls i h =
     ap₂ (λ (a b : ℕ). record { secrecy = a; integrity = b }) (padded-at 64 (tables ls) (2 * i) (omega arith)) (padded-at 64 (tables ls) (2 * i + 1) (omega arith))
     ∙ tables-at ls i
@@ -142,7 +144,7 @@ past-padded n xs k h = List·getD-eq-default (padded n xs) 0 {n = k} (rw (length
 
 -- Where there are at most 32 labels the words hold each, and ⟨False, False⟩ at any index past them.
 pub words-hold-any : (ls : List Label) → length ls ≤ 32 → (i : ℕ) → labelIn (labelWords ls) i ≡ getD ls i noLabel
-unfolding labelWords
+unfolding labelIn labelWords
 words-hold-any ls few i = by (ltb i 32) refl where
   by : (b : Bool) → ltb i 32 ≡ b → labelIn (padded 64 (tables ls)) i ≡ getD ls i noLabel
   by true e = words-hold ls i (ltb-true i 32 e)
