@@ -1,6 +1,5 @@
 -- The input records on their way into the store.
 use mathlib.Core.Path.{_≡_, refl, sym, ap, ap₂, _∙_}
-use mathlib.Core.Logic.{_≢_}
 use mathlib.Core.List.{List, [], _∷_, _++_, append-assoc}
 use Prim.Native.Nat.{ℕ, zero, suc, _+_, _-_, _*_, _≤_, _<_}
 use native.Mathlib.Nat.{mul-suc, add-zero, zero-add, add-assoc, add-comm}
@@ -13,7 +12,6 @@ use Rattle.model.specs.Decoding.{byte, u32}
 use Rattle.model.specs.Inputs.{Input, kindOf, inputs, inputSlots}
 use Rattle.model.specs.Running.{startStore}
 use Rattle.store.specs.Slots.{words, slots}
-use Rattle.model.specs.declared.Kind.the-variants.{Reference}
 use Rattle.model.specs.declared.Datum.the-variants.{Number}
 use Rattle.model.specs.declared.Contents.the-variants.{Value}
 use Rattle.model.specs.declared.Record.{Record}
@@ -65,10 +63,6 @@ placed-more ls bs n h =
 pub placed-all : (ls : ℕ → Label) (bs : List ℕ) (n : ℕ) → placed ls bs n ≡ startStore (inputSlots (inputs ls bs n 0))
 unfolding placed startStore
 placed-all ls bs n = ap (λ (k : ℕ). inputSlots (inputs ls bs n 0) ++ replicate (256 - k) Empty) (sym (length-inputs ls bs n 0))
-
-pub kind-other : (b : ℕ) → b ≢ 0 → Reference ≡ kindOf b
-kind-other zero h = absurd (h refl)
-kind-other (suc n) h = refl
 
 -- the first i of n records are placed
 pub record Placing (ls : ℕ → Label) (bs store : List ℕ) (n i : ℕ) : Type 0 where

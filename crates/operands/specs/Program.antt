@@ -1,7 +1,8 @@
 -- What a file's parts are to the machine: code, labels as words, input records.
 use mathlib.Core.Path.{_≡_, refl, sym, ap, _∙_}
 use mathlib.Core.Bool.{Bool, true, false, cond}
-use mathlib.Core.List.{List, [], _∷_}
+use mathlib.Core.Logic.{_≢_}
+use mathlib.Core.List.{List}
 use Prim.Native.Nat.{ℕ, zero, suc, _+_, _*_, _/_, _≤_, _<_}
 use native.Mathlib.Nat.{add-zero, zero-add}
 use native.Mathlib.Omega.{arith}
@@ -62,9 +63,9 @@ input-none ls bs zero b p i h = refl
 input-none ls bs (suc n) b p zero h = absurd (omega arith)
 input-none ls bs (suc n) b p (suc i) h = input-none ls bs n (b + 6) (suc p) i (omega arith)
 
-pub other-kind : (n : ℕ) → (n ≡ 0 → ⊥) → kindOf n ≡ Reference
-other-kind zero h = absurd (h refl)
-other-kind (suc n) h = refl
+pub kind-other : (n : ℕ) → n ≢ 0 → Reference ≡ kindOf n
+kind-other zero h = absurd (h refl)
+kind-other (suc n) h = refl
 
 pub input-in : (rs : List ℕ) (i : ℕ) → i < count rs → Handle (kindOf (byte rs (6 * i))) i ≡ inputAt rs i
 unfolding inputAt
