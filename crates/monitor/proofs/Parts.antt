@@ -1,10 +1,9 @@
 -- What a file that loads hands to the machine, in parts, is what the definition runs it with.
 use mathlib.Core.List.{List}
-use mathlib.Core.Path.{_≡_, ap, ap₂, fun-ext}
-use Prim.Native.Nat.{ℕ, _+_, _-_, _*_, _/_, _≤_}
+use mathlib.Core.Path.{_≡_, ap₂, fun-ext}
+use Prim.Native.Nat.{ℕ, _*_, _≤_}
 use native.Mathlib.Omega.{arith}
-use lib.ListN.{length, take, drop, length-take, length-drop}
-use borrow.Rule.Slice.PartAt.{part-to-end}
+use lib.ListN.{length, length-take, length-drop}
 use Rattle.labels.specs.declared.Label.{Label}
 use Rattle.labels.specs.Order.{flows, join, meet}
 use Rattle.model.specs.State.{Program}
@@ -13,13 +12,11 @@ use Rattle.model.specs.Inputs.{inputs, handles}
 use Rattle.model.specs.Words.{labelIn}
 use Rattle.operands.specs.Program.{count, program}
 use Rattle.script_file.specs.Sections.{header, recordBytes, codeBytes, fileLabels, orNone, labelAt}
-use Rattle.script_file.specs.Checks.{countsOk, passes2, refusal}
+use Rattle.script_file.specs.Checks.{refusal}
 use Rattle.script_file.specs.Loading.{labelWords}
 use Rattle.script_file.specs.Program.{fileInputs, fileProgram}
 use Rattle.script_file.proofs.Limits.{Counted, Placed}
-use Rattle.model.proofs.Tests.{leb-le}
-use Rattle.script_file.proofs.Answers.{accepted, within-limits, in-place}
-use Rattle.noninterference.proofs.Checks.{every-each, places-fit}
+use Rattle.script_file.proofs.Answers.{within-limits, in-place}
 use Rattle.script_file.proofs.Findings.{words-are-labels}
 
 module _ (bs : List ℕ) (ok : refusal bs ≡ 0) where
@@ -32,23 +29,12 @@ module _ (bs : List ℕ) (ok : refusal bs ≡ 0) where
   pub labels-are : labelIn (labelWords (orNone (fileLabels bs))) ≡ labelAt bs
   labels-are = fun-ext (words-are-labels bs ok)
 
-  -- the input records, from their offset to the code's
-  pub records-are : take (header bs .code .offset - header bs .records .offset) (drop (header bs .records .offset) bs) ≡ recordBytes bs
-  unfolding recordBytes
-  records-are =
-      ap (λ (n : ℕ). take n (drop (header bs .records .offset) bs))
-      (let e : header bs .code .offset - header bs .records .offset ≡ 6 * header bs .records .count = omega (arith, ordered .code) in e)
-
   pub records-length : length (recordBytes bs) ≡ 6 * header bs .records .count
   unfolding recordBytes
   records-length = simp (length-take, length-drop) (omega (arith, ordered .code, ordered .whole))
 
   pub records-counted : count (recordBytes bs) ≡ header bs .records .count
   records-counted = let e = records-length in omega arith
-
-  pub code-is : take (length bs - header bs .code .offset) (drop (header bs .code .offset) bs) ≡ codeBytes bs
-  unfolding codeBytes
-  code-is = part-to-end bs (header bs .code .offset)
 
   pub code-length : length (codeBytes bs) ≤ 4096
   unfolding codeBytes
@@ -68,10 +54,3 @@ module _ (bs : List ℕ) (ok : refusal bs ≡ 0) where
         inputs = handles 0 (inputs ls (recordBytes bs) n 0);
       } in p)
       labels-are records-counted
-
-  pub inputs-allowed : header bs .records .count ≤ header bs .places
-  unfolding passes2 countsOk
-  inputs-allowed = leb-le (header bs .records .count) (header bs .places) (every-each _ (accepted bs ok .counts) .1 .1 .1 .1 .1 .1 .0)
-
-  pub places-allowed : header bs .places ≤ 256
-  places-allowed = places-fit bs (accepted bs ok .counts)
