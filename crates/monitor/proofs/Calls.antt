@@ -1,8 +1,8 @@
 -- The parts of a read put together: each lemma is what one return of the code promises.
 use mathlib.Core.Bool.{false}
-use mathlib.Core.List.{List, [], _∷_}
+use mathlib.Core.List.{List}
 use mathlib.Core.Path.{_≡_, refl, sym, ap, _∙_}
-use Prim.Native.Nat.{ℕ, zero, suc, _-_, _^_, _≤_, _<_}
+use Prim.Native.Nat.{ℕ, _-_, _^_, _≤_, _<_}
 use native.Mathlib.Omega.{arith}
 use borrow.Author.Tests.{lt-ltb, le-ltb, lt-leb, le-leb}
 use lib.Dec.{eqb}
@@ -20,13 +20,14 @@ use Rattle.store.specs.Slots.{slots}
 use Rattle.script_file.specs.Sections.{header, recordBytes, codeBytes, fileLabels, orNone, labelAt}
 use Rattle.script_file.specs.Checks.{refusal}
 use Rattle.model.proofs.Tests.{cond-one}
-use Rattle.script_file.specs.Loading.{number, loaded, padded, tables, labelWords, wordsAfter}
+use Rattle.script_file.specs.Loading.{number, loaded, tables, labelWords, wordsAfter}
 use Rattle.script_file.specs.Program.{fileInputs, fileAccount, fileRun}
 use Rattle.script_file.specs.declared.Header.{Header}
 use Rattle.script_file.specs.declared.Refusal.{Refusal}
 use Rattle.script_file.specs.declared.Refusal.the-variants.{Size, Counts, Offsets, Labels, Start, Records, Code}
 use Rattle.script_file.specs.declared.Loaded.the-variants.{Refused as Stopped, File}
 use Rattle.script_file.proofs.Limits.{Counted, Placed}
+use Rattle.script_file.proofs.Labels.{length-padded}
 use Rattle.script_file.proofs.Answers.{refused-number, file-number, file-header, loads, within-limits, in-place}
 use Rattle.script_file.proofs.Findings.{recordsIn, codeIn, records-in, code-in}
 use Rattle.view.specs.Layout.{view}
@@ -104,11 +105,6 @@ unfolding slots parts
 no-records = refl
 
 -- ── the answers ──
-
-length-padded : (n : ℕ) (xs : List ℕ) → length (padded n xs) ≡ n
-length-padded zero xs = refl
-length-padded (suc n) [] = ap suc (length-padded n [])
-length-padded (suc n) (x ∷ xs) = ap suc (length-padded n xs)
 
 -- the labels' words are as many as before, however the file loads
 pub length-words : (bs was ws : List ℕ) → length was ≡ 64 → ws ≡ wordsAfter bs was → length ws ≡ 64

@@ -1,16 +1,18 @@
 -- The input records on their way into the store.
 use mathlib.Core.Path.{_≡_, refl, sym, ap, ap₂, _∙_}
-use mathlib.Core.List.{List, [], _∷_, _++_, append-assoc}
+use mathlib.Core.List.{List, [], _∷_, _++_}
 use Prim.Native.Nat.{ℕ, zero, suc, _+_, _-_, _*_, _≤_, _<_}
-use native.Mathlib.Nat.{mul-suc, add-zero, zero-add, add-assoc, add-comm}
+use native.Mathlib.Nat.{zero-add}
 use native.Mathlib.Numerals.{add-one}
 use native.Mathlib.Omega.{arith}
-use lib.ListN.{length, set, replicate, length-append}
+use lib.ListN.{length, set, replicate}
+use lib.Seq.{append-snoc, set-append-seam}
 use Rattle.labels.specs.declared.Label.{Label}
 use Rattle.model.specs.State.{Store}
 use Rattle.model.specs.Decoding.{byte, u32}
-use Rattle.model.specs.Inputs.{Input, kindOf, inputs, inputSlots}
+use Rattle.model.specs.Inputs.{kindOf, inputs, inputSlots}
 use Rattle.model.specs.Running.{startStore}
+use Rattle.model.proofs.Start.{length-inputs, length-slots}
 use Rattle.store.specs.Slots.{words, slots}
 use Rattle.model.specs.declared.Datum.the-variants.{Number}
 use Rattle.model.specs.declared.Contents.the-variants.{Value}
@@ -29,10 +31,8 @@ noRecords = replicate 256 Empty
 unfoldable pub placed : (ℕ → Label) → List ℕ → ℕ → Store
 placed ls bs n = inputSlots (inputs ls bs n 0) ++ replicate (256 - n) Empty
 
-length-inputs : (ls : ℕ → Label) (bs : List ℕ) (n i : ℕ) → length (inputSlots (inputs ls bs n i)) ≡ n
-unfolding inputs inputSlots
-length-inputs ls bs zero i = refl
-length-inputs ls bs (suc n) i = ap suc (length-inputs ls bs n (i + 6))
+length-placed : (ls : ℕ → Label) (bs : List ℕ) (n i : ℕ) → length (inputSlots (inputs ls bs n i)) ≡ n
+length-placed ls bs n i = length-slots (inputs ls bs n i) ∙ length-inputs ls bs n i
 
 pub placed-none : (ls : ℕ → Label) (bs : List ℕ) → placed ls bs 0 ≡ noRecords
 unfolding placed inputs inputSlots
@@ -48,21 +48,20 @@ more ls bs (suc n) i =
 
 -- the first of the places that are left is filled
 filled : (l : Store) (m : ℕ) (x : Slot) → set (l ++ replicate (suc m) Empty) (length l) x ≡ (l ++ (x ∷ [])) ++ replicate m Empty
-filled [] m x = refl
-filled (y ∷ l) m x = ap (λ (t : Store). y ∷ t) (filled l m x)
+filled l m x = set-append-seam l Empty (replicate m Empty) x ∙ sym (append-snoc l x (replicate m Empty))
 
 pub placed-more : (ls : ℕ → Label) (bs : List ℕ) (n : ℕ) → n < 256 → set (placed ls bs n) n (Full (inputRecord ls bs (6 * n))) ≡ placed ls bs (n + 1)
 unfolding placed
 placed-more ls bs n h =
     ap₂ (λ (m k : ℕ). set (inputSlots (inputs ls bs n 0) ++ replicate m Empty) k (Full (inputRecord ls bs (6 * n))))
-    (let e : 256 - n ≡ suc (256 - (n + 1)) = omega arith in e) (sym (length-inputs ls bs n 0))
+    (let e : 256 - n ≡ suc (256 - (n + 1)) = omega arith in e) (sym (length-placed ls bs n 0))
     ∙ filled (inputSlots (inputs ls bs n 0)) (256 - (n + 1)) (Full (inputRecord ls bs (6 * n)))
     ∙ ap (λ (l : Store). l ++ replicate (256 - (n + 1)) Empty)
     (ap (λ (k : ℕ). inputSlots (inputs ls bs n 0) ++ (Full (inputRecord ls bs k) ∷ [])) (sym (zero-add (6 * n))) ∙ sym (more ls bs n 0) ∙ ap (λ (k : ℕ). inputSlots (inputs ls bs k 0)) (sym (add-one n)))
 
 pub placed-all : (ls : ℕ → Label) (bs : List ℕ) (n : ℕ) → placed ls bs n ≡ startStore (inputSlots (inputs ls bs n 0))
 unfolding placed startStore
-placed-all ls bs n = ap (λ (k : ℕ). inputSlots (inputs ls bs n 0) ++ replicate (256 - k) Empty) (sym (length-inputs ls bs n 0))
+placed-all ls bs n = ap (λ (k : ℕ). inputSlots (inputs ls bs n 0) ++ replicate (256 - k) Empty) (sym (length-placed ls bs n 0))
 
 -- the first i of n records are placed
 pub record Placing (ls : ℕ → Label) (bs store : List ℕ) (n i : ℕ) : Type 0 where

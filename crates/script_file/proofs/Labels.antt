@@ -1,34 +1,22 @@
 -- The label section, one entry at a time, and the words that it fills.
-use mathlib.Core.Bool.{Bool, true, false, cond}
+use mathlib.Core.Bool.{Bool, true, false}
 use mathlib.Core.List.{List, [], _∷_, _++_, append-assoc, append-nil}
 use mathlib.Core.Option.{Option, none, some}
-use mathlib.Core.Path.{_≡_, refl, sym, ap, ap₂, subst, _∙_}
+use mathlib.Core.Path.{_≡_, refl, sym, ap, ap₂, _∙_}
 use Prim.Native.Nat.{ℕ, zero, suc, _+_, _*_, _≤_, _<_}
 use native.Mathlib.Omega.{arith}
-use lib.Dec.{T, ltb}
+use lib.Dec.{ltb}
 use borrow.Author.Tests.{ltb-true, ltb-false}
 use lib.ListN.{length, getD, set, drop, length-append, List·getD-eq-default}
-use Rattle.labels.specs.Entry.{wellFormed, readEntry, entryLength}
+use Rattle.labels.specs.Entry.{readEntry}
 use Rattle.labels.specs.declared.Label.{Label}
 use Rattle.labels.specs.declared.Entry.{Entry}
 use Rattle.labels.specs.declared.Entry.the-variants.{Read, Malformed}
-use Rattle.labels.proofs.Reading.{well-formed, found}
 use Rattle.model.specs.Words.{labelIn}
 use Rattle.script_file.specs.Sections.{consLabel, labelsAfter, readLabels, orNone}
 use Rattle.script_file.specs.Loading.{tables, padded, labelWords}
 use Rattle.script_file.specs.Parts.{tableOf}
 use Rattle.script_file.specs.declared.Table.{Table}
-
--- an entry that is read lies within the bytes
-pub entry-within : (xs : List ℕ) (l : Label) (k : ℕ) → readEntry xs ≡ Read l k → k ≤ length xs
-unfolding readEntry
-entry-within xs l k e = go (wellFormed xs) refl e where
-  go : (b : Bool) → wellFormed xs ≡ b → cond b (found xs) Malformed ≡ Read l k → k ≤ length xs
-  go true w r =
-      let same : entryLength xs ≡ k = cc in
-      let whole = well-formed xs (subst (λ (b : Bool). T b) (sym w) tt) .whole in
-      omega arith
-  go false w r = let z : _≡_ {A = ℕ} 0 1 = cc in absurd (omega arith)
 
 -- ── filling the words ──
 
@@ -134,7 +122,7 @@ labels-few zero [] = omega arith
 labels-few zero (b ∷ bs) = omega arith
 labels-few (suc n) bs = after-few n (λ k. readLabels n (drop k bs)) (λ k. labels-few n (drop k bs)) (readEntry bs)
 
-length-padded : (n : ℕ) (xs : List ℕ) → length (padded n xs) ≡ n
+pub length-padded : (n : ℕ) (xs : List ℕ) → length (padded n xs) ≡ n
 length-padded zero xs = refl
 length-padded (suc n) [] = ap suc (length-padded n [])
 length-padded (suc n) (x ∷ xs) = ap suc (length-padded n xs)
