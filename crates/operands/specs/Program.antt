@@ -10,14 +10,14 @@ use lib.Dec.{ltb}
 use borrow.Author.Tests.{lt-ltb, le-ltb, ltb-true, ltb-false}
 use lib.ListN.{length, getD, List·getD-eq-default}
 use Rattle.labels.specs.declared.Label.{Label}
-use Rattle.labels.specs.Order.{flows, join, meet}
 use Rattle.model.specs.declared.Kind.the-variants.{Reference}
 use Rattle.model.specs.declared.Value.{Value}
 use Rattle.model.specs.declared.Datum.{Datum}
 use Rattle.model.specs.declared.Datum.the-variants.{Number, Handle}
 use Rattle.model.specs.State.{Program, value, number}
-use Rattle.model.specs.Decoding.{byte, fetch, after}
+use Rattle.model.specs.Decoding.{byte}
 use Rattle.model.specs.Inputs.{kindOf, inputs, handles}
+use Rattle.model.specs.Running.{programOf}
 use Rattle.model.specs.Words.{labelIn}
 
 -- how many input records there are in a list of bytes
@@ -25,16 +25,7 @@ abbrev pub count : List ℕ → ℕ
 count rs = length rs / 6
 
 unfoldable pub program : List ℕ → List ℕ → List ℕ → Program
-program code ws rs =
-    record {
-      flows = flows;
-      join = join;
-      meet = meet;
-      fetch = fetch code;
-      after = after code;
-      labels = labelIn ws;
-      inputs = handles 0 (inputs (labelIn ws) rs (count rs) 0);
-    }
+program code ws rs = programOf code (labelIn ws) (inputs (labelIn ws) rs (count rs) 0)
 
 -- what INPUT pushes
 unfoldable pub inputAt : List ℕ → ℕ → Datum
