@@ -8,15 +8,14 @@ use native.Mathlib.Omega.{arith}
 use lib.ListN.{length, replicate, length-append, length-replicate}
 use Rattle.labels.specs.declared.Label.{Label}
 use Rattle.model.specs.State.{Store, Program, at, value, number}
-use Rattle.model.specs.Effects.{holding}
-use Rattle.model.specs.Inputs.{Input, inputs, handles, inputSlots}
+use Rattle.model.specs.Inputs.{Input, inputs, handles, recordOf, inputSlots}
 use Rattle.model.specs.Running.{runs, startControl, startAccount, startStore}
 use Rattle.model.specs.declared.Kind.{Kind}
 use Rattle.model.specs.declared.Datum.the-variants.{Number, Handle}
 use Rattle.model.specs.declared.Value.{Value}
 use Rattle.model.specs.declared.Contents.the-variants.{Value as Holds}
 use Rattle.model.specs.declared.Slot.{Slot}
-use Rattle.model.specs.declared.Slot.the-variants.{Empty}
+use Rattle.model.specs.declared.Slot.the-variants.{Empty, Full}
 use Rattle.model.proofs.Places.{blank}
 use Rattle.model.proofs.Kept.{LowSet, visible, shell, Fresh, unseen}
 use Rattle.model.proofs.Plans.{All}
@@ -32,9 +31,6 @@ AlikeInputs Low [] (y ∷ ys) = ⊥
 AlikeInputs Low (x ∷ xs) [] = ⊥
 AlikeInputs Low (x ∷ xs) (y ∷ ys) =
     (x .kind ≡ y .kind) × (x .label ≡ y .label) × (Low (x .label) ≡ true → x .number ≡ y .number) × AlikeInputs Low xs ys
-
-abbrev slotOf : Input → Slot
-slotOf x = holding (x .kind) (x .label) (Holds (Number (x .number)))
 
 -- ── alike inputs give equivalent stores ──
 
@@ -63,15 +59,15 @@ length-slots [] = refl
 length-slots (x ∷ xs) = ap suc (length-slots xs)
 
 -- two inputs of one kind and label
-one-shell : (x y : Input) → x .kind ≡ y .kind → x .label ≡ y .label → shell (slotOf x) ≡ shell (slotOf y)
+one-shell : (x y : Input) → x .kind ≡ y .kind → x .label ≡ y .label → shell (Full (recordOf x)) ≡ shell (Full (recordOf y))
 unfolding shell
 one-shell x y k l = cc
 
 one-visible : (Low : Label → Bool) (x y : Input) → x .kind ≡ y .kind → x .label ≡ y .label → (Low (x .label) ≡ true → x .number ≡ y .number)
-    → visible Low (slotOf x) ≡ visible Low (slotOf y)
+    → visible Low (Full (recordOf x)) ≡ visible Low (Full (recordOf y))
 one-visible Low x y k l n = test (Low (x .label)) refl
   where
-    test : (t : Bool) → Low (x .label) ≡ t → visible Low (slotOf x) ≡ visible Low (slotOf y)
+    test : (t : Bool) → Low (x .label) ≡ t → visible Low (Full (recordOf x)) ≡ visible Low (Full (recordOf y))
     test true e = let m = n e in cc
     test false e = unseen Low (x .kind) (x .label) (Holds (Number (x .number))) e
         ∙ sym (unseen Low (y .kind) (y .label) (Holds (Number (y .number))) (ap Low (sym l) ∙ e))
