@@ -1,23 +1,20 @@
 -- What each instruction costs, exactly, in steps and places.
-use mathlib.Core.Bool.{Bool, true, false, cond, _&&_}
-use mathlib.Core.List.{List, [], _∷_}
+use mathlib.Core.Bool.{Bool, true, false, cond, _&&_, and-assoc}
 use mathlib.Core.Path.{_≡_, refl}
 use Prim.Native.Nat.{ℕ, suc, _+_}
 use native.Mathlib.Omega.{arith}
 use lib.Dec.{leb, ltb}
+use borrow.Author.Tests.{leb-true}
 use Rattle.labels.specs.declared.Label.{Label}
 use Rattle.model.specs.State.{Control, Account, Store, Program, Runner, at, jump, withSteps}
 use Rattle.model.specs.Operands.{Request, none, ends, throws, raises, lowers, labels, opens, makes, writes, blocks, Plan, faults, asks, plan}
-use Rattle.model.specs.Effects.{Next, failTo, fail, checkTarget, raised, yield, openSlot, labelSlot, writeSlot, act}
+use Rattle.model.specs.Effects.{Next, fail, checkTarget, raised, openSlot, labelSlot, writeSlot, act}
 use Rattle.model.specs.Running.{perform, step}
 use Rattle.model.specs.declared.Datum.{Datum}
-use Rattle.model.specs.declared.Contents.{Contents}
-use Rattle.model.specs.declared.Contents.the-variants.{Value as Holds, Fault}
 use Rattle.model.specs.declared.Slot.{Slot}
 use Rattle.model.specs.declared.Slot.the-variants.{Empty, Full}
-use Rattle.model.specs.declared.Frame.{Frame}
-use Rattle.model.proofs.Tests.{leb-le, cond-one}
-use Rattle.model.proofs.Effects.{accountOf}
+use Rattle.model.proofs.Tests.{cond-one, cond-two}
+use Rattle.model.proofs.Effects.{accountOf, fail-of, yield-of}
 
 -- ── the statement ──
 
@@ -68,35 +65,18 @@ pub record Paid (x : Cost) (a b : Account) : Type 0 where
 paid-none : (a : Account) → Paid (costs 0 0) a a
 paid-none a = record { steps = omega arith; next = omega arith; limit = refl; depth = refl }
 
--- tests of a cost, in the order of the checks: the first, and the last
+-- the first of the tests of a cost, which are in the order of the checks
 first-test : (G : Cost → Next → Type 0) (s t : Bool) (u : Cost) {x y : Next} → (s ≡ true → G (cond t u (costs 0 0)) x)
     → (s ≡ false → G (costs 0 0) y) → G (cond (s && t) u (costs 0 0)) (cond s x y)
 first-test G true t u f g = f refl
 first-test G false t u f g = g refl
 
-last-test : (G : Cost → Next → Type 0) (t : Bool) (u : Cost) {x y : Next} → (t ≡ true → G u x) → (t ≡ false → G (costs 0 0) y)
-    → G (cond t u (costs 0 0)) (cond t x y)
-last-test G true u f g = f refl
-last-test G false u f g = g refl
-
-and-assoc : (s t u : Bool) → ((s && t) && u) ≡ (s && (t && u))
-and-assoc true t u = refl
-and-assoc false t u = refl
-
 module _ (P : Program) (R : Runner) (c : Control) (a : Account) (σ : Store) where
   abbrev Costs : Cost → Next → Type 0
   Costs x y = Paid x a (accountOf y)
 
-  fails : (b : Account) → Paid (costs 0 0) a b → (code n : ℕ) → Costs (costs 0 0) (fail code n c b σ)
-  unfolding failTo
-  fails b h code n = frames (c .frames)
-    where
-      frames : (fs : List Frame) → Costs (costs 0 0) (failTo fs code n c b σ)
-      frames [] = h
-      frames (f ∷ fs) = h
-
   faulted : (code n : ℕ) → Costs (costs 0 0) (fail code n c a σ)
-  faulted = fails a (paid-none a)
+  faulted code n = fail-of (λ b _. Paid (costs 0 0) a b) code n c a σ (paid-none a)
 
   target-cost : (l : Label) (t : Bool) (u : Cost) (x : Next) → Costs (cond t u (costs 0 0)) x
       → Costs (cond (targetOk P a l && t) u (costs 0 0)) (checkTarget P l c a σ x)
@@ -107,17 +87,13 @@ module _ (P : Program) (R : Runner) (c : Control) (a : Account) (σ : Store) whe
       (λ _. faulted 23 0))
 
   open-cost : (r : Control) (x : Slot) → Costs (costs 0 0) (openSlot P c r a σ x)
-  unfolding openSlot yield
+  unfolding openSlot
   open-cost r Empty = faulted 33 0
   open-cost r (Full x) =
-      cond-one (Costs (costs 0 0)) (P .flows (P .join (a .label) (x .label)) (a .clearance)) (λ _. contents (x .contents)) (λ _. faulted 24 0)
-    where
-      same : Paid (costs 0 0) a (raised P (x .label) a)
-      same = record { steps = omega arith; next = omega arith; limit = refl; depth = refl }
-
-      contents : (y : Contents) → Costs (costs 0 0) (yield c r (raised P (x .label) a) σ y)
-      contents (Holds d) = same
-      contents (Fault code n) = fails (raised P (x .label) a) same code n
+      cond-one (Costs (costs 0 0)) (P .flows (P .join (a .label) (x .label)) (a .clearance))
+      (λ _. yield-of (λ b _. Paid (costs 0 0) a b) c r (raised P (x .label) a) σ (x .contents)
+      (record { steps = omega arith; next = omega arith; limit = refl; depth = refl }))
+      (λ _. faulted 24 0)
 
   label-cost : (r : Control) (x : Slot) → Costs (costs 0 0) (labelSlot c r a σ x)
   unfolding labelSlot
@@ -147,15 +123,15 @@ module _ (P : Program) (R : Runner) (c : Control) (a : Account) (σ : Store) whe
   act-cost r (opens p) = open-cost r (at σ p)
   act-cost r (makes h l d) =
       target-cost l (ltb (a .next) (a .limit)) (costs 0 1) _
-      (last-test Costs (ltb (a .next) (a .limit)) (costs 0 1)
+      (cond-two Costs (ltb (a .next) (a .limit))
       (λ _. record { steps = omega arith; next = refl; limit = refl; depth = refl }) (λ _. faulted 26 0))
   act-cost r (writes p d) = write-cost r p d (at σ p)
   act-cost r (blocks b t n k) =
       target-cost b (ltb (a .depth) 8 && (leb n (a .steps) && leb (a .next + 1 + k) (a .limit))) (costs n (k + 1)) _
       (first-test Costs (ltb (a .depth) 8) (leb n (a .steps) && leb (a .next + 1 + k) (a .limit)) (costs n (k + 1))
       (λ _. first-test Costs (leb n (a .steps)) (leb (a .next + 1 + k) (a .limit)) (costs n (k + 1))
-      (λ e. last-test Costs (leb (a .next + 1 + k) (a .limit)) (costs n (k + 1))
-      (λ _. record { steps = omega (arith, leb-le n (a .steps) e); next = omega arith; limit = refl; depth = refl })
+      (λ e. cond-two Costs (leb (a .next + 1 + k) (a .limit))
+      (λ _. record { steps = omega (arith, leb-true n (a .steps) e); next = omega arith; limit = refl; depth = refl })
       (λ _. faulted 26 0))
       (λ _. faulted 27 0))
       (λ _. faulted 28 0))

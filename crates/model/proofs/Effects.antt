@@ -1,10 +1,11 @@
 -- What an instruction can do to account and store: six effects. What holds of each holds of every instruction, and what
 -- goes through each goes through a run. Theorems on one run are proved by these two principles, once for each effect.
-use mathlib.Core.Bool.{true, _&&_}
+use mathlib.Core.Bool.{true, _&&_, and-eq-true-iff}
 use mathlib.Core.List.{List, [], _∷_}
 use mathlib.Core.Path.{_≡_, refl}
 use Prim.Native.Nat.{ℕ, zero, suc, _+_, _-_, _≤_, _<_}
 use lib.Dec.{leb, ltb}
+use borrow.Author.Tests.{ltb-true, leb-true}
 use lib.ListN.{set}
 use Rattle.labels.specs.declared.Label.{Label}
 use Rattle.model.specs.State.{Control, Account, Store, Program, Outcome, Runner, at, jump, withClearance, withSteps, withNext}
@@ -20,7 +21,7 @@ use Rattle.model.specs.declared.Record.{Record}
 use Rattle.model.specs.declared.Slot.{Slot}
 use Rattle.model.specs.declared.Slot.the-variants.{Empty, Full}
 use Rattle.model.specs.declared.Frame.{Frame}
-use Rattle.model.proofs.Tests.{leb-le, both-left, both-right, cond-one}
+use Rattle.model.proofs.Tests.{cond-one}
 
 abbrev pub accountOf : Next → Account
 accountOf (go c a σ) = a
@@ -52,13 +53,19 @@ pub record Effects (P : Program) (R : Runner) (a : Account) (σ : Store) (G : Ac
 -- ── one instruction ──
 
 module _ (G : Account → Store → Type 0) where
-  fail-of : (code n : ℕ) (c : Control) (a : Account) (σ : Store) → G a σ → Of G (fail code n c a σ)
+  -- faults and contents leave account and store as they are
+  pub fail-of : (code n : ℕ) (c : Control) (a : Account) (σ : Store) → G a σ → Of G (fail code n c a σ)
   unfolding failTo
   fail-of code n c a σ g = frames (c .frames)
     where
       frames : (fs : List Frame) → Of G (failTo fs code n c a σ)
       frames [] = g
       frames (f ∷ fs) = g
+
+  pub yield-of : (c r : Control) (a : Account) (σ : Store) (x : Contents) → G a σ → Of G (yield c r a σ x)
+  unfolding yield
+  yield-of c r a σ (Holds d) g = g
+  yield-of c r a σ (Fault code n) g = fail-of code n c a σ g
 
   module _ (P : Program) (R : Runner) (c : Control) (a : Account) (σ : Store) (E : Effects P R a σ G) where
     fails : (code n : ℕ) → Of G (fail code n c a σ)
@@ -69,13 +76,11 @@ module _ (G : Account → Store → Type 0) where
         cond-one (Of G) (P .flows (a .label) l) (λ e. cond-one (Of G) (P .flows l (a .clearance)) (λ f. h e f) (λ _. fails 24 0)) (λ _. fails 23 0)
 
     open-of : (r : Control) (x : Slot) → Of G (openSlot P c r a σ x)
-    unfolding openSlot yield
+    unfolding openSlot
     open-of r Empty = fails 33 0
-    open-of r (Full x) = cond-one (Of G) (P .flows (P .join (a .label) (x .label)) (a .clearance)) (λ e. yields e (x .contents)) (λ _. fails 24 0)
-      where
-        yields : P .flows (P .join (a .label) (x .label)) (a .clearance) ≡ true → (y : Contents) → Of G (yield c r (raised P (x .label) a) σ y)
-        yields e (Holds d) = E .raises-to (x .label) e
-        yields e (Fault code n) = fail-of code n c (raised P (x .label) a) σ (E .raises-to (x .label) e)
+    open-of r (Full x) =
+        cond-one (Of G) (P .flows (P .join (a .label) (x .label)) (a .clearance))
+        (λ e. yield-of c r (raised P (x .label) a) σ (x .contents) (E .raises-to (x .label) e)) (λ _. fails 24 0)
 
     label-of : (r : Control) (x : Slot) → Of G (labelSlot c r a σ x)
     unfolding labelSlot
@@ -95,21 +100,20 @@ module _ (G : Account → Store → Type 0) where
     act-of r (raises l) = cond-one (Of G) (P .flows (P .join (a .label) l) (a .clearance)) (λ e. E .raises-to l e) (λ _. fails 24 0)
     act-of r (lowers l) =
         cond-one (Of G) (P .flows (a .label) l && P .flows l (a .clearance))
-        (λ e. E .lowers-to l (both-left (P .flows (a .label) l) (P .flows l (a .clearance)) e)
-        (both-right (P .flows (a .label) l) (P .flows l (a .clearance)) e))
+        (λ e. let both = and-eq-true-iff (P .flows (a .label) l) (P .flows l (a .clearance)) .0 e in E .lowers-to l (both .0) (both .1))
         (λ _. fails 25 0)
     act-of r (labels p) = label-of r (at σ p)
     act-of r (opens p) = open-of r (at σ p)
     act-of r (makes h l d) =
         target-of l _
-        (λ f g. cond-one (Of G) (ltb (a .next) (a .limit)) (λ e. E .made h l d f g (leb-le (suc (a .next)) (a .limit) e)) (λ _. fails 26 0))
+        (λ f g. cond-one (Of G) (ltb (a .next) (a .limit)) (λ e. E .made h l d f g (ltb-true (a .next) (a .limit) e)) (λ _. fails 26 0))
     act-of r (writes p d) = write-of r p d (at σ p) refl
     act-of r (blocks b t n k) =
         target-of b _
         (λ f g. cond-one (Of G) (ltb (a .depth) 8)
         (λ _. cond-one (Of G) (leb n (a .steps))
         (λ d. cond-one (Of G) (leb (a .next + 1 + k) (a .limit))
-        (λ e. E .blocked (bodyControl t r) b n k f g (leb-le n (a .steps) d) (leb-le (a .next + 1 + k) (a .limit) e) _)
+        (λ e. E .blocked (bodyControl t r) b n k f g (leb-true n (a .steps) d) (leb-true (a .next + 1 + k) (a .limit) e) _)
         (λ _. fails 26 0))
         (λ _. fails 27 0))
         (λ _. fails 28 0))

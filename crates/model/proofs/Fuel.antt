@@ -6,13 +6,14 @@ use Prim.Native.Nat.{ℕ, zero, suc, _+_, _≤_, _<_}
 use native.Mathlib.Nat.{le-refl}
 use native.Mathlib.Omega.{arith}
 use lib.Dec.{leb, ltb}
+use borrow.Author.Tests.{leb-true}
 use Rattle.model.specs.State.{Control, Account, Store, Program, Outcome, Runner, jump, withSteps}
 use Rattle.model.specs.Operands.{Request, none, ends, throws, raises, lowers, labels, opens, makes, writes, blocks, Plan, faults, asks, plan}
 use Rattle.model.specs.Effects.{Next, go, stop, fail, bodyControl, bodyAccount, sealOutcome, act}
 use Rattle.model.specs.Running.{perform, step, resume, pay, run, runs}
 use Rattle.model.specs.declared.Ending.{Ending}
 use Rattle.model.specs.declared.Ending.the-variants.{Spent}
-use Rattle.model.proofs.Tests.{leb-le, cond-two}
+use Rattle.model.proofs.Tests.{cond-two}
 use Rattle.model.proofs.Effects.{accountOf, Effects, step-of}
 
 -- no instruction gives steps back
@@ -55,7 +56,7 @@ module _ (P : Program) where
       (λ _. cond-two (λ x y. x ≡ y) (ltb (a .depth) 8)
       (λ _. cond-two (λ x y. x ≡ y) (leb n (a .steps))
       (λ e. ap (λ (o : Outcome). cond (leb (a .next + 1 + k) (a .limit)) (sealOutcome P r a b n k o) (fail 26 0 c a σ))
-      (h (bodyControl t r) (bodyAccount n k a) σ (leb-le n (a .steps) e)))
+      (h (bodyControl t r) (bodyAccount n k a) σ (leb-true n (a .steps) e)))
       (λ _. refl))
       (λ _. refl))
       (λ _. refl))

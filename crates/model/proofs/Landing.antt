@@ -6,12 +6,10 @@ use lib.Dec.{leb, ltb, eqb}
 use lib.ListN.{length}
 use Rattle.labels.specs.declared.Label.{Label}
 use Rattle.model.specs.State.{Control, Account, Store, Program, Runner, at, jump, withStack}
-use Rattle.model.specs.Operands.{Request, none, ends, throws, raises, lowers, labels, opens, makes, writes, blocks, Plan, faults, asks, popFrom, asNumber, asLabel, asHandle, asSealed, asReference, pop, popNumber, popLabel, arity, dropFrame, operate, plan}
+use Rattle.model.specs.Operands.{Request, none, ends, throws, raises, lowers, labels, opens, makes, writes, blocks, Plan, faults, asks, popFrom, asNumber, asLabel, pop, popNumber, popLabel, arity, dropFrame, operate, plan}
 use Rattle.model.specs.Effects.{Next, go, stop, failTo, fail, checkTarget, raised, yield, openSlot, labelSlot, writeSlot, act}
 use Rattle.model.specs.Running.{perform, step}
-use Rattle.model.specs.declared.Kind.the-variants.{Sealed, Reference}
 use Rattle.model.specs.declared.Datum.{Datum}
-use Rattle.model.specs.declared.Datum.the-variants.{Number, Label as Labelled, Handle}
 use Rattle.model.specs.declared.Value.{Value}
 use Rattle.model.specs.declared.Contents.{Contents}
 use Rattle.model.specs.declared.Contents.the-variants.{Value as Holds, Fault}
@@ -21,6 +19,7 @@ use Rattle.model.specs.declared.Frame.{Frame}
 use Rattle.model.specs.declared.Instr.{Instr}
 use Rattle.model.specs.declared.Instr.the-variants.{End, Push, Lab, Get, Set, Pop, Add, Sub, Less, Same, Jump, Ifz, Cur, Clr, Raise, Lower, Flows, Join, Meet, Seal, Open, Labof, New, Read, Write, Block, Try, Done, Throw, Input}
 use Rattle.model.proofs.Tests.{cond-one}
+use Rattle.model.proofs.Plans.{number-of, label-of, handle-of, sealed-of, reference-of}
 
 module _ (N : ℕ → Type 0) where
   -- ── the statement ──
@@ -92,46 +91,14 @@ module _ (N : ℕ → Type 0) where
   pop-lands c [] k f = tt
   pop-lands c (v ∷ s) k f = f (v .datum) s
 
-  number-lands : (d : Datum) (k : ℕ → Plan) → ((n : ℕ) → PlanLands (k n)) → PlanLands (asNumber d k)
-  unfolding asNumber
-  number-lands (Number n) k f = f n
-  number-lands (Labelled l) k f = tt
-  number-lands (Handle h p) k f = tt
-
-  label-lands : (d : Datum) (k : Label → Plan) → ((l : Label) → PlanLands (k l)) → PlanLands (asLabel d k)
-  unfolding asLabel
-  label-lands (Number n) k f = tt
-  label-lands (Labelled l) k f = f l
-  label-lands (Handle h p) k f = tt
-
-  handle-lands : (d : Datum) (k : ℕ → Plan) → ((p : ℕ) → PlanLands (k p)) → PlanLands (asHandle d k)
-  unfolding asHandle
-  handle-lands (Number n) k f = tt
-  handle-lands (Labelled l) k f = tt
-  handle-lands (Handle h p) k f = f p
-
-  sealed-lands : (d : Datum) (k : ℕ → Plan) → ((p : ℕ) → PlanLands (k p)) → PlanLands (asSealed d k)
-  unfolding asSealed
-  sealed-lands (Number n) k f = tt
-  sealed-lands (Labelled l) k f = tt
-  sealed-lands (Handle Sealed p) k f = f p
-  sealed-lands (Handle Reference p) k f = tt
-
-  reference-lands : (d : Datum) (k : ℕ → Plan) → ((p : ℕ) → PlanLands (k p)) → PlanLands (asReference d k)
-  unfolding asReference
-  reference-lands (Number n) k f = tt
-  reference-lands (Labelled l) k f = tt
-  reference-lands (Handle Sealed p) k f = tt
-  reference-lands (Handle Reference p) k f = f p
-
   any : (c : Control) (k : Datum → Control → Plan) → ((d : Datum) (s : List Value) → PlanLands (k d (withStack s c))) → PlanLands (pop c k)
   any c k f = pop-lands c (c .stack) k f
 
   one-number : (c : Control) (k : ℕ → Control → Plan) → ((n : ℕ) (s : List Value) → PlanLands (k n (withStack s c))) → PlanLands (popNumber c k)
-  one-number c k f = any c (λ d r. asNumber d (λ n. k n r)) (λ d s. number-lands d (λ n. k n (withStack s c)) (λ n. f n s))
+  one-number c k f = any c (λ d r. asNumber d (λ n. k n r)) (λ d s. number-of PlanLands (λ _. tt) d (λ n. k n (withStack s c)) (λ n. f n s))
 
   one-label : (c : Control) (k : Label → Control → Plan) → ((l : Label) (s : List Value) → PlanLands (k l (withStack s c))) → PlanLands (popLabel c k)
-  one-label c k f = any c (λ d r. asLabel d (λ l. k l r)) (λ d s. label-lands d (λ l. k l (withStack s c)) (λ l. f l s))
+  one-label c k f = any c (λ d r. asLabel d (λ l. k l r)) (λ d s. label-of PlanLands (λ _. tt) d (λ l. k l (withStack s c)) (λ l. f l s))
 
   drop-lands : (c : Control) (fs : List Frame) → N (c .pc) → Handlers fs → PlanLands (dropFrame c fs)
   unfolding dropFrame
@@ -162,11 +129,11 @@ module _ (N : ℕ → Type 0) where
     operate-lands c Join h g = one-label c _ (λ m s. one-label (withStack s c) _ (λ l t. (h, g)))
     operate-lands c Meet h g = one-label c _ (λ m s. one-label (withStack s c) _ (λ l t. (h, g)))
     operate-lands c Seal h g = one-label c _ (λ l s. any (withStack s c) _ (λ d t. (h, g)))
-    operate-lands c Open h g = any c _ (λ d s. sealed-lands d _ (λ p. (h, g)))
-    operate-lands c Labof h g = any c _ (λ d s. handle-lands d _ (λ p. (h, g)))
+    operate-lands c Open h g = any c _ (λ d s. sealed-of PlanLands (λ _. tt) d _ (λ _ p _. (h, g)))
+    operate-lands c Labof h g = any c _ (λ d s. handle-of PlanLands (λ _. tt) d _ (λ _ p _. (h, g)))
     operate-lands c New h g = one-label c _ (λ l s. any (withStack s c) _ (λ d t. (h, g)))
-    operate-lands c Read h g = any c _ (λ d s. reference-lands d _ (λ p. (h, g)))
-    operate-lands c Write h g = any c _ (λ e s. any (withStack s c) _ (λ d t. reference-lands e _ (λ p. (h, g))))
+    operate-lands c Read h g = any c _ (λ d s. reference-of PlanLands (λ _. tt) d _ (λ _ p _. (h, g)))
+    operate-lands c Write h g = any c _ (λ e s. any (withStack s c) _ (λ d t. reference-of PlanLands (λ _. tt) e _ (λ _ p _. (h, g))))
     operate-lands c (Block t n k) h g = one-label c _ (λ l s. (h, g))
     operate-lands c (Try k) h g = cond-one PlanLands (ltb (length (c .frames)) 8) (λ _. (h .1, (h .0, g))) (λ _. tt)
     operate-lands c Done h g = drop-lands c (c .frames) h g

@@ -1,12 +1,14 @@
 -- A plan makes no handle: a property T of the place of every handle in the script's reach is one of every handle in the plan.
 use mathlib.Core.Bool.{Bool, true, false}
 use mathlib.Core.List.{List, [], _∷_}
+use mathlib.Core.Path.{_≡_, refl, subst}
 use Prim.Native.Nat.{ℕ, zero, suc, _+_, _-_}
 use lib.Dec.{leb, ltb, eqb}
 use lib.ListN.{length, getD, set, drop}
 use Rattle.labels.specs.declared.Label.{Label}
 use Rattle.model.specs.State.{Control, Account, Program, value, number, withStack}
 use Rattle.model.specs.Operands.{Request, none, ends, throws, raises, lowers, labels, opens, makes, writes, blocks, Plan, faults, asks, popFrom, asNumber, asLabel, asHandle, asSealed, asReference, pop, popNumber, popLabel, arity, pushes, truth, dropFrame, operate, plan}
+use Rattle.model.specs.declared.Kind.{Kind}
 use Rattle.model.specs.declared.Kind.the-variants.{Sealed, Reference}
 use Rattle.model.specs.declared.Datum.{Datum}
 use Rattle.model.specs.declared.Datum.the-variants.{Number, Label as Labelled, Handle}
@@ -80,6 +82,41 @@ module _ (T : ℕ → Type 0) where
     pub reach-wider : (c : Control) → Reach T c → Reach T′ c
     reach-wider c h = record { stack = all-wider (c .stack) (h .stack); locals = all-wider (c .locals) (h .locals) }
 
+-- ── operands: what holds of faults, and of what the wanted kind of operand leads to, holds of the plan ──
+
+module _ (Q : Plan → Type 0) (fault : (code : ℕ) → Q (faults code)) where
+  pub number-of : (d : Datum) (k : ℕ → Plan) → ((n : ℕ) → Q (k n)) → Q (asNumber d k)
+  unfolding asNumber
+  number-of (Number n) k f = f n
+  number-of (Labelled l) k f = fault 22
+  number-of (Handle h p) k f = fault 22
+
+  pub label-of : (d : Datum) (k : Label → Plan) → ((l : Label) → Q (k l)) → Q (asLabel d k)
+  unfolding asLabel
+  label-of (Number n) k f = fault 22
+  label-of (Labelled l) k f = f l
+  label-of (Handle h p) k f = fault 22
+
+  pub handle-of : (d : Datum) (k : ℕ → Plan) → ((h : Kind) (p : ℕ) → d ≡ Handle h p → Q (k p)) → Q (asHandle d k)
+  unfolding asHandle
+  handle-of (Number n) k f = fault 22
+  handle-of (Labelled l) k f = fault 22
+  handle-of (Handle h p) k f = f h p refl
+
+  pub sealed-of : (d : Datum) (k : ℕ → Plan) → ((h : Kind) (p : ℕ) → d ≡ Handle h p → Q (k p)) → Q (asSealed d k)
+  unfolding asSealed
+  sealed-of (Number n) k f = fault 22
+  sealed-of (Labelled l) k f = fault 22
+  sealed-of (Handle Sealed p) k f = f Sealed p refl
+  sealed-of (Handle Reference p) k f = fault 22
+
+  pub reference-of : (d : Datum) (k : ℕ → Plan) → ((h : Kind) (p : ℕ) → d ≡ Handle h p → Q (k p)) → Q (asReference d k)
+  unfolding asReference
+  reference-of (Number n) k f = fault 22
+  reference-of (Labelled l) k f = fault 22
+  reference-of (Handle Sealed p) k f = fault 22
+  reference-of (Handle Reference p) k f = f Reference p refl
+
 -- ── the proof ──
 
 module _ (T : ℕ → Type 0) where
@@ -88,38 +125,6 @@ module _ (T : ℕ → Type 0) where
   unfolding popFrom
   pop-in c [] k h f = tt
   pop-in c (v ∷ s) k h f = f (v .datum) s (h .0) (h .1)
-
-  number-in : (d : Datum) (k : ℕ → Plan) → ((n : ℕ) → InPlan T (k n)) → InPlan T (asNumber d k)
-  unfolding asNumber
-  number-in (Number n) k f = f n
-  number-in (Labelled l) k f = tt
-  number-in (Handle h p) k f = tt
-
-  label-in : (d : Datum) (k : Label → Plan) → ((l : Label) → InPlan T (k l)) → InPlan T (asLabel d k)
-  unfolding asLabel
-  label-in (Number n) k f = tt
-  label-in (Labelled l) k f = f l
-  label-in (Handle h p) k f = tt
-
-  handle-in : (d : Datum) (k : ℕ → Plan) → Points T d → ((p : ℕ) → T p → InPlan T (k p)) → InPlan T (asHandle d k)
-  unfolding asHandle
-  handle-in (Number n) k x f = tt
-  handle-in (Labelled l) k x f = tt
-  handle-in (Handle h p) k x f = f p x
-
-  sealed-in : (d : Datum) (k : ℕ → Plan) → Points T d → ((p : ℕ) → T p → InPlan T (k p)) → InPlan T (asSealed d k)
-  unfolding asSealed
-  sealed-in (Number n) k x f = tt
-  sealed-in (Labelled l) k x f = tt
-  sealed-in (Handle Sealed p) k x f = f p x
-  sealed-in (Handle Reference p) k x f = tt
-
-  reference-in : (d : Datum) (k : ℕ → Plan) → Points T d → ((p : ℕ) → T p → InPlan T (k p)) → InPlan T (asReference d k)
-  unfolding asReference
-  reference-in (Number n) k x f = tt
-  reference-in (Labelled l) k x f = tt
-  reference-in (Handle Sealed p) k x f = tt
-  reference-in (Handle Reference p) k x f = f p x
 
   module _ (c : Control) (g : Reach T c) where
     rest : (s : List Value) → All T s → Reach T (withStack s c)
@@ -133,10 +138,10 @@ module _ (T : ℕ → Type 0) where
     any k f = pop-in c (c .stack) k (g .stack) f
 
     one-number : (k : ℕ → Control → Plan) → ((n : ℕ) (s : List Value) → All T s → InPlan T (k n (withStack s c))) → InPlan T (popNumber c k)
-    one-number k f = any (λ d r. asNumber d (λ n. k n r)) (λ d s x h. number-in d (λ n. k n (withStack s c)) (λ n. f n s h))
+    one-number k f = any (λ d r. asNumber d (λ n. k n r)) (λ d s x h. number-of (InPlan T) (λ _. tt) d (λ n. k n (withStack s c)) (λ n. f n s h))
 
     one-label : (k : Label → Control → Plan) → ((l : Label) (s : List Value) → All T s → InPlan T (k l (withStack s c))) → InPlan T (popLabel c k)
-    one-label k f = any (λ d r. asLabel d (λ l. k l r)) (λ d s x h. label-in d (λ l. k l (withStack s c)) (λ l. f l s h))
+    one-label k f = any (λ d r. asLabel d (λ l. k l r)) (λ d s x h. label-of (InPlan T) (λ _. tt) d (λ l. k l (withStack s c)) (λ l. f l s h))
 
     drop-in : (fs : List Frame) → InPlan T (dropFrame c fs)
     unfolding dropFrame
@@ -181,12 +186,12 @@ module _ (T : ℕ → Type 0) where
     operate-in c g Join = two-labels c g _ (λ l m. tt)
     operate-in c g Meet = two-labels c g _ (λ l m. tt)
     operate-in c g Seal = one-label c g _ (λ l s h. any (withStack s c) (rest c g s h) _ (λ d t x k. (rest c g t k, x)))
-    operate-in c g Open = any c g _ (λ d s x h. sealed-in d _ x (λ p y. (rest c g s h, y)))
-    operate-in c g Labof = any c g _ (λ d s x h. handle-in d _ x (λ p y. (rest c g s h, y)))
+    operate-in c g Open = any c g _ (λ d s x h. sealed-of (InPlan T) (λ _. tt) d _ (λ k p e. (rest c g s h, subst (Points T) e x)))
+    operate-in c g Labof = any c g _ (λ d s x h. handle-of (InPlan T) (λ _. tt) d _ (λ k p e. (rest c g s h, subst (Points T) e x)))
     operate-in c g New = one-label c g _ (λ l s h. any (withStack s c) (rest c g s h) _ (λ d t x k. (rest c g t k, x)))
-    operate-in c g Read = any c g _ (λ d s x h. reference-in d _ x (λ p y. (rest c g s h, y)))
+    operate-in c g Read = any c g _ (λ d s x h. reference-of (InPlan T) (λ _. tt) d _ (λ k p e. (rest c g s h, subst (Points T) e x)))
     operate-in c g Write =
-        any c g _ (λ e s x h. any (withStack s c) (rest c g s h) _ (λ d t y k. reference-in e _ x (λ p z. (rest c g t k, (z, y)))))
+        any c g _ (λ e s x h. any (withStack s c) (rest c g s h) _ (λ d t y k. reference-of (InPlan T) (λ _. tt) e _ (λ j p z. (rest c g t k, (subst (Points T) z x, y)))))
     operate-in c g (Block t n k) = one-label c g _ (λ l s h. (rest c g s h, tt))
     operate-in c g (Try h) =
         cond-one (InPlan T) (ltb (length (c .frames)) 8) (λ _. (record { stack = g .stack; locals = g .locals }, tt)) (λ _. tt)

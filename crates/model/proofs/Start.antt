@@ -8,15 +8,15 @@ use native.Mathlib.Omega.{arith}
 use lib.ListN.{length, replicate, length-append, length-replicate}
 use Rattle.labels.specs.declared.Label.{Label}
 use Rattle.model.specs.State.{Store, Program, at, value, number}
-use Rattle.model.specs.Effects.{holding}
-use Rattle.model.specs.Inputs.{Input, handles, inputSlots}
+use Rattle.model.specs.Inputs.{Input, inputs, handles, recordOf, inputSlots}
 use Rattle.model.specs.Running.{runs, startControl, startAccount, startStore}
 use Rattle.model.specs.declared.Kind.{Kind}
 use Rattle.model.specs.declared.Datum.the-variants.{Number, Handle}
 use Rattle.model.specs.declared.Value.{Value}
 use Rattle.model.specs.declared.Contents.the-variants.{Value as Holds}
 use Rattle.model.specs.declared.Slot.{Slot}
-use Rattle.model.specs.declared.Slot.the-variants.{Empty}
+use Rattle.model.specs.declared.Slot.the-variants.{Empty, Full}
+use Rattle.model.proofs.Places.{blank}
 use Rattle.model.proofs.Kept.{LowSet, visible, shell, Fresh, unseen}
 use Rattle.model.proofs.Plans.{All}
 use Rattle.model.proofs.LowEquivalence.{Twin, SharedSlot, LowEquivalent, LowOutcomes, shell-full, shared-visible}
@@ -31,9 +31,6 @@ AlikeInputs Low [] (y ∷ ys) = ⊥
 AlikeInputs Low (x ∷ xs) [] = ⊥
 AlikeInputs Low (x ∷ xs) (y ∷ ys) =
     (x .kind ≡ y .kind) × (x .label ≡ y .label) × (Low (x .label) ≡ true → x .number ≡ y .number) × AlikeInputs Low xs ys
-
-abbrev slotOf : Input → Slot
-slotOf x = holding (x .kind) (x .label) (Holds (Number (x .number)))
 
 -- ── alike inputs give equivalent stores ──
 
@@ -51,21 +48,26 @@ alike-handles Low p (x ∷ xs) [] h = absurd h
 alike-handles Low p (x ∷ xs) (y ∷ ys) h =
     ap₂ (λ (k : Kind) (r : List Value). value (Handle k p) ∷ r) (h .0) (alike-handles Low (suc p) xs ys (h .3))
 
+pub length-inputs : (ls : ℕ → Label) (bs : List ℕ) (n i : ℕ) → length (inputs ls bs n i) ≡ n
+unfolding inputs
+length-inputs ls bs zero i = refl
+length-inputs ls bs (suc n) i = ap suc (length-inputs ls bs n (i + 6))
+
 pub length-slots : (xs : List Input) → length (inputSlots xs) ≡ length xs
 unfolding inputSlots
 length-slots [] = refl
 length-slots (x ∷ xs) = ap suc (length-slots xs)
 
 -- two inputs of one kind and label
-one-shell : (x y : Input) → x .kind ≡ y .kind → x .label ≡ y .label → shell (slotOf x) ≡ shell (slotOf y)
+one-shell : (x y : Input) → x .kind ≡ y .kind → x .label ≡ y .label → shell (Full (recordOf x)) ≡ shell (Full (recordOf y))
 unfolding shell
 one-shell x y k l = cc
 
 one-visible : (Low : Label → Bool) (x y : Input) → x .kind ≡ y .kind → x .label ≡ y .label → (Low (x .label) ≡ true → x .number ≡ y .number)
-    → visible Low (slotOf x) ≡ visible Low (slotOf y)
+    → visible Low (Full (recordOf x)) ≡ visible Low (Full (recordOf y))
 one-visible Low x y k l n = test (Low (x .label)) refl
   where
-    test : (t : Bool) → Low (x .label) ≡ t → visible Low (slotOf x) ≡ visible Low (slotOf y)
+    test : (t : Bool) → Low (x .label) ≡ t → visible Low (Full (recordOf x)) ≡ visible Low (Full (recordOf y))
     test true e = let m = n e in cc
     test false e = unseen Low (x .kind) (x .label) (Holds (Number (x .number))) e
         ∙ sym (unseen Low (y .kind) (y .label) (Holds (Number (y .number))) (ap Low (sym l) ∙ e))
@@ -83,14 +85,9 @@ alike-places Low m (x ∷ xs) [] h p = absurd h
 alike-places Low m (x ∷ xs) (y ∷ ys) h zero = (one-visible Low x y (h .0) (h .1) (h .2), one-shell x y (h .0) (h .1))
 alike-places Low m (x ∷ xs) (y ∷ ys) h (suc p) = alike-places Low m xs ys (h .3) p
 
-blank : (m p : ℕ) → at (replicate m Empty) p ≡ Empty
-blank zero p = refl
-blank (suc m) zero = refl
-blank (suc m) (suc p) = blank m p
-
 rest-empty : (xs : List Input) (m p : ℕ) → length xs ≤ p → at (places xs m) p ≡ Empty
 unfolding inputSlots
-rest-empty [] m p h = blank m p
+rest-empty [] m p h = blank m p Empty
 rest-empty (x ∷ xs) m zero h = absurd (omega arith)
 rest-empty (x ∷ xs) m (suc p) h = rest-empty xs m p (omega arith)
 
@@ -103,7 +100,7 @@ input-full (x ∷ xs) m (suc p) h = input-full xs m p (omega arith)
 -- input records hold numbers
 no-handles : (P : Program) (Low : Label → Bool) (σ τ : Store) (xs : List Input) (m p : ℕ) → SharedSlot σ τ (visible Low (at (places xs m) p))
 unfolding inputSlots visible
-no-handles P Low σ τ [] m p = subst (λ (x : Slot). SharedSlot σ τ (visible Low x)) (sym (blank m p)) tt
+no-handles P Low σ τ [] m p = subst (λ (x : Slot). SharedSlot σ τ (visible Low x)) (sym (blank m p Empty)) tt
 no-handles P Low σ τ (x ∷ xs) m zero = shared-visible P Low σ τ (x .kind) (x .label) (Holds (Number (x .number))) tt
 no-handles P Low σ τ (x ∷ xs) m (suc p) = no-handles P Low σ τ xs m p
 

@@ -1,10 +1,11 @@
 -- One instruction in two runs: from states that an observer can't tell apart to states that the observer can't.
 use mathlib.Core.Bool.{Bool, true, false, cond, _&&_}
 use mathlib.Core.List.{List, [], _∷_}
-use mathlib.Core.Path.{_≡_, refl, sym, ap, _∙_, subst, subst₂}
-use Prim.Native.Nat.{ℕ, suc, _+_, _-_, _≤_, _<_}
+use mathlib.Core.Path.{_≡_, refl, sym, ap, subst, subst₂}
+use Prim.Native.Nat.{ℕ, _+_, _-_, _≤_, _<_}
 use native.Mathlib.Omega.{arith}
 use lib.Dec.{leb, ltb}
+use borrow.Author.Tests.{ltb-true, leb-true}
 use lib.ListN.{length, set}
 use Rattle.labels.specs.declared.Label.{Label}
 use Rattle.model.specs.State.{Control, Account, Store, Program, Outcome, Runner, at, number, push, jump, withSteps, withNext}
@@ -21,8 +22,8 @@ use Rattle.model.specs.declared.Record.{Record}
 use Rattle.model.specs.declared.Slot.{Slot}
 use Rattle.model.specs.declared.Slot.the-variants.{Empty, Full}
 use Rattle.model.specs.declared.Frame.{Frame}
-use Rattle.model.proofs.Tests.{leb-le, cond-two}
-use Rattle.model.proofs.Effects.{accountOf, storeOf}
+use Rattle.model.proofs.Tests.{cond-two}
+use Rattle.model.proofs.Effects.{storeOf, yield-of}
 use Rattle.model.proofs.Kept.{LowSet, visible, shell, Fresh, Kept, up, RunnerKept}
 use Rattle.model.proofs.Plans.{all-drop, Reach, reach-wider, points-wider, InRequest, InPlan, plan-in}
 use Rattle.model.proofs.LowEquivalence.{Twin, Shared, SharedContents, SharedSlot, LowEquivalent, LowOutcomes, LowNext, goes, stops, parts, Grows, shared-grows, grows-set, place-twin, grows-kept, equivalent-set, shared-visible}
@@ -44,28 +45,6 @@ same-label x y e = ap (λ (z : Record). z .label) (same-record _ _ e)
 no-shell : (x : Record) → shell Empty ≡ shell (Full x) → ⊥
 unfolding shell
 no-shell x e = let z : _≡_ {A = ℕ} 0 1 = cc in omega arith
-
--- ── faults and contents leave account and store as they are ──
-
-fail-account : (fs : List Frame) (code n : ℕ) (c : Control) (a : Account) (σ : Store) → accountOf (failTo fs code n c a σ) ≡ a
-unfolding failTo
-fail-account [] code n c a σ = refl
-fail-account (f ∷ fs) code n c a σ = refl
-
-fail-store : (fs : List Frame) (code n : ℕ) (c : Control) (a : Account) (σ : Store) → storeOf (failTo fs code n c a σ) ≡ σ
-unfolding failTo
-fail-store [] code n c a σ = refl
-fail-store (f ∷ fs) code n c a σ = refl
-
-yield-account : (c r : Control) (a : Account) (σ : Store) (x : Contents) → accountOf (yield c r a σ x) ≡ a
-unfolding yield
-yield-account c r a σ (Holds d) = refl
-yield-account c r a σ (Fault code n) = fail-account (c .frames) code n c a σ
-
-yield-store : (c r : Control) (a : Account) (σ : Store) (x : Contents) → storeOf (yield c r a σ x) ≡ σ
-unfolding yield
-yield-store c r a σ (Holds d) = refl
-yield-store c r a σ (Fault code n) = fail-store (c .frames) code n c a σ
 
 -- ── one instruction ──
 
@@ -120,8 +99,8 @@ module _ (P : Program) (Low : Label → Bool) (D : LowSet P Low) where
     -- any contents, under a label that the observer doesn't see: here the runs part
     yield-apart : (b : Account) (x y : Contents) → Low (b .label) ≡ false → LowNext P Low (yield c r b σ x) (yield c r b τ y)
     yield-apart b x y e =
-        parts (ap (λ (z : Account). Low (z .label)) (yield-account c r b σ x) ∙ e) (ap (λ (z : Account). Low (z .label)) (yield-account c r b τ y) ∙ e)
-        (subst₂ (LowEquivalent P Low) (sym (yield-store c r b σ x)) (sym (yield-store c r b τ y)) s)
+        parts (yield-of (λ d _. Low (d .label) ≡ false) c r b σ x e) (yield-of (λ d _. Low (d .label) ≡ false) c r b τ y e)
+        (yield-of (λ _ ρ. LowEquivalent P Low ρ (storeOf (yield c r b τ y))) c r b σ x (yield-of (λ _ ρ. LowEquivalent P Low σ ρ) c r b τ y s))
 
     open-alike : (h j : Kind) (l : Label) (x y : Contents) → SharedSlot σ τ (visible Low (holding h l x))
         → visible Low (holding h l x) ≡ visible Low (holding j l y)
@@ -255,14 +234,14 @@ module _ (P : Program) (Low : Label → Bool) (D : LowSet P Low) where
     act-two (opens p) i = open-two (at σ p) (at τ p) (i .1) (s .alike p) (s .shared p)
     act-two (makes h l d) i =
         target-two l _ _
-        (cond-two (LowNext P Low) (ltb (a .next) (a .limit)) (λ e. make-two h l d i (leb-le (suc (a .next)) (a .limit) e)) (λ _. fails 26 0))
+        (cond-two (LowNext P Low) (ltb (a .next) (a .limit)) (λ e. make-two h l d i (ltb-true (a .next) (a .limit) e)) (λ _. fails 26 0))
     act-two (writes p d) i = write-two p d (at σ p) (at τ p) (i .1) (i .0 .1)
     act-two (blocks b t n k) i =
         target-two b _ _
         (cond-two (LowNext P Low) (ltb (a .depth) 8)
         (λ _. cond-two (LowNext P Low) (leb n (a .steps))
         (λ _. cond-two (LowNext P Low) (leb (a .next + 1 + k) (a .limit))
-        (λ e. block-two b t n k (leb-le (a .next + 1 + k) (a .limit) e))
+        (λ e. block-two b t n k (leb-true (a .next + 1 + k) (a .limit) e))
         (λ _. fails 26 0))
         (λ _. fails 27 0))
         (λ _. fails 28 0))

@@ -2,10 +2,13 @@
 use mathlib.Core.List.{List, [], _++_}
 use Prim.Native.Nat.{ℕ, zero, suc, _-_}
 use lib.ListN.{length, replicate}
+use Rattle.labels.specs.Order.{flows, join, meet}
 use Rattle.labels.specs.declared.Label.{Label}
 use Rattle.model.specs.State.{Control, Account, Store, Program, Outcome, Runner, number, jump, withSteps}
+use Rattle.model.specs.Decoding.{fetch, after}
 use Rattle.model.specs.Operands.{Plan, faults, asks, plan}
 use Rattle.model.specs.Effects.{Next, go, stop, fail, act}
+use Rattle.model.specs.Inputs.{Input, handles}
 use Rattle.model.specs.declared.Slot.the-variants.{Empty}
 use Rattle.model.specs.declared.Ending.the-variants.{Spent}
 
@@ -36,6 +39,11 @@ unfoldable pub runs : Program → Runner
 runs P c a σ = run P (a .steps) c a σ
 
 -- ── the start ──
+
+-- a file's program: its code, its labels and its input records. The order is that of labels.
+abbrev pub programOf : List ℕ → (ℕ → Label) → List Input → Program
+programOf code ls xs =
+    record { flows = flows; join = join; meet = meet; fetch = fetch code; after = after code; labels = ls; inputs = handles 0 xs }
 
 abbrev pub startControl : Control
 startControl = record { pc = 0; stack = []; locals = replicate 16 (number 0); frames = [] }

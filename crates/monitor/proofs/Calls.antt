@@ -1,41 +1,44 @@
 -- The parts of a read put together: each lemma is what one return of the code promises.
-use mathlib.Core.Bool.{Bool, true, false}
-use mathlib.Core.List.{List, [], _∷_}
+use mathlib.Core.Bool.{false}
+use mathlib.Core.List.{List}
 use mathlib.Core.Path.{_≡_, refl, sym, ap, _∙_}
-use Prim.Native.Nat.{ℕ, zero, suc, _+_, _-_, _*_, _^_, _≤_, _<_}
+use Prim.Native.Nat.{ℕ, _-_, _^_, _≤_, _<_}
 use native.Mathlib.Omega.{arith}
 use borrow.Author.Tests.{lt-ltb, le-ltb, lt-leb, le-leb}
-use lib.Dec.{leb, ltb, eqb}
-use lib.ListN.{length, take, drop, replicate}
+use lib.Dec.{eqb}
+use lib.ListN.{length, replicate}
 use Rattle.labels.specs.declared.Label.{Label}
-use Rattle.model.specs.State.{Store, Outcome, Account, Program}
+use Rattle.model.specs.State.{Store, Outcome}
 use Rattle.model.specs.Inputs.{inputs, inputSlots}
 use Rattle.model.specs.Running.{runs, startControl, startAccount, startStore}
-use Rattle.model.specs.declared.Slot.the-variants.{Empty}
-use Rattle.machine.specs.State.{outcomeOf, endingOf}
+use Rattle.machine.specs.State.{outcomeOf}
 use Rattle.machine.specs.declared.State.{State}
-use Rattle.operands.specs.Program.{labelAt as labelIn, count, program}
+use Rattle.model.specs.Words.{labelIn}
+use Rattle.operands.specs.Program.{count, program}
 use Rattle.store.specs.Chunks.{parts}
 use Rattle.store.specs.Slots.{slots}
 use Rattle.script_file.specs.Sections.{header, recordBytes, codeBytes, fileLabels, orNone, labelAt}
 use Rattle.script_file.specs.Checks.{refusal}
 use Rattle.model.proofs.Tests.{cond-one}
-use Rattle.script_file.specs.Loading.{number, loaded, padded, tables, labelWords, wordsAfter}
-use Rattle.script_file.specs.Program.{fileInputs, fileAccount, fileProgram, fileRun}
+use Rattle.script_file.specs.Loading.{number, loaded, tables, labelWords, wordsAfter}
+use Rattle.script_file.specs.Program.{fileInputs, fileAccount, fileRun}
 use Rattle.script_file.specs.declared.Header.{Header}
 use Rattle.script_file.specs.declared.Refusal.{Refusal}
 use Rattle.script_file.specs.declared.Refusal.the-variants.{Size, Counts, Offsets, Labels, Start, Records, Code}
 use Rattle.script_file.specs.declared.Loaded.the-variants.{Refused as Stopped, File}
+use Rattle.script_file.proofs.Limits.{Counted, Placed}
+use Rattle.script_file.proofs.Labels.{length-padded}
 use Rattle.script_file.proofs.Answers.{refused-number, file-number, file-header, loads, within-limits, in-place}
-use Rattle.view.specs.Layout.{viewLength, view}
+use Rattle.script_file.proofs.Findings.{recordsIn, codeIn, records-in, code-in}
+use Rattle.view.specs.Layout.{view}
 use Rattle.view.specs.Reading.{Reading, refuse, show, reading, fileView, viewed}
 use Rattle.view.specs.Writing.{over, reads as readerOf, finished}
 use Rattle.view.specs.declared.Finish.{Finish}
-use Rattle.view.proofs.Widths.{length-view, view-finished}
+use Rattle.view.proofs.Widths.{view-finished}
 use Rattle.monitor.specs.Answers.{answerOf, reads, codeOf, Loads, Leaves, Finishes}
 use Rattle.monitor.specs.declared.Answer.{Answer}
 use Rattle.monitor.specs.Placing.{noRecords}
-use Rattle.monitor.proofs.Parts.{labels-are, records-are, records-length, records-counted, code-is, code-length, program-is, inputs-allowed, places-allowed}
+use Rattle.monitor.proofs.Parts.{labels-are, records-length, records-counted, code-length, program-is}
 
 -- ── the view and the buffer ──
 
@@ -48,44 +51,43 @@ show-whole v b out n h e f = rw (e, f, le-leb (length v) (length b) h)
 
 -- ── the run ──
 
--- the parts that the code takes of a file
-abbrev pub recordsIn : Header → List ℕ → List ℕ
-recordsIn h bs = take (h .code .offset - h .records .offset) (drop (h .records .offset) bs)
-
-abbrev pub codeIn : Header → List ℕ → List ℕ
-codeIn h bs = take (length bs - h .code .offset) (drop (h .code .offset) bs)
-
 module _ (bs : List ℕ) (h : Header) (ws : List ℕ) (w : Loads bs h ws) where
-  records-in : recordsIn h bs ≡ recordBytes bs
-  records-in = ap (λ (g : Header). recordsIn g bs) (w .numbers) ∙ records-are bs (w .none)
+  limits : Counted h
+  limits = rw (w .numbers) (within-limits bs (w .none))
 
-  code-in : codeIn h bs ≡ codeBytes bs
-  code-in = ap (λ (g : Header). codeIn g bs) (w .numbers) ∙ code-is bs (w .none)
+  ordered : Placed h (length bs)
+  ordered = rw (w .numbers) (in-place bs (w .none))
+
+  records-are : recordsIn h bs ≡ recordBytes bs
+  records-are = records-in bs h (w .numbers) (ordered .code)
+
+  code-is : codeIn h bs ≡ codeBytes bs
+  code-is = code-in bs h (w .numbers)
 
   pub records-first : h .records .offset ≤ h .code .offset
-  records-first = rw (w .numbers) (let p = in-place bs (w .none) .code in omega arith)
+  records-first = omega (arith, ordered .code)
 
   pub code-within : h .code .offset ≤ length bs
-  code-within = rw (w .numbers) (let p = in-place bs (w .none) .whole in omega arith)
+  code-within = omega (arith, ordered .whole)
 
   pub records-short : length (recordsIn h bs) ≤ 384
-  records-short = rw records-in (let e = records-length bs (w .none) in let m = within-limits bs (w .none) .records in omega arith)
+  records-short = rw records-are (let e = records-length bs (w .none) in let m = within-limits bs (w .none) .records in omega arith)
 
   pub code-short : length (codeIn h bs) < 2 ^ 16
-  code-short = rw code-in (let m = code-length bs (w .none) in omega arith)
+  code-short = rw code-is (let m = code-length bs (w .none) in omega arith)
 
   pub inputs-fit : count (recordsIn h bs) ≤ h .places
-  inputs-fit = rw (records-in, w .numbers, records-counted bs (w .none)) (inputs-allowed bs (w .none))
+  inputs-fit = rw (records-are, records-counted bs (w .none), ← w .numbers) (limits .inputs-fit)
 
   pub places-fit : h .places ≤ 256
-  places-fit = rw (w .numbers) (places-allowed bs (w .none))
+  places-fit = limits .places
 
   pub run-is : (l c : Label) (σ : Store) → l ≡ labelIn ws 0 → c ≡ labelIn ws 1
       → σ ≡ startStore (inputSlots (inputs (labelIn ws) (recordsIn h bs) (count (recordsIn h bs)) 0))
       → runs (program (codeIn h bs) ws (recordsIn h bs)) startControl (startAccount l c (h .steps) (count (recordsIn h bs)) (h .places)) σ ≡ fileRun bs
   unfolding fileRun fileAccount fileInputs
   run-is l c σ el ec es =
-      rw (el, ec, es, records-in, code-in, w .numbers, w .labels, program-is bs (w .none), labels-are bs (w .none), records-counted bs (w .none))
+      rw (el, ec, es, records-are, code-is, w .numbers, w .labels, program-is bs (w .none), labels-are bs (w .none), records-counted bs (w .none))
 
 pub finishes : (f : Finish) (s : State) (σ : Store) (o : Outcome) → Leaves f s → outcomeOf s σ ≡ o → Finishes f σ o
 finishes f s σ o w e =
@@ -103,11 +105,6 @@ unfolding slots parts
 no-records = refl
 
 -- ── the answers ──
-
-length-padded : (n : ℕ) (xs : List ℕ) → length (padded n xs) ≡ n
-length-padded zero xs = refl
-length-padded (suc n) [] = ap suc (length-padded n [])
-length-padded (suc n) (x ∷ xs) = ap suc (length-padded n xs)
 
 -- the labels' words are as many as before, however the file loads
 pub length-words : (bs was ws : List ℕ) → length was ≡ 64 → ws ≡ wordsAfter bs was → length ws ≡ 64

@@ -1,26 +1,26 @@
 -- The three demands on a read, as the open call's contract gives them.
-use mathlib.Core.Bool.{Bool, true, false, cond}
+use mathlib.Core.Bool.{Bool, true, false}
 use mathlib.Core.List.{List, [], _∷_, _++_}
 use mathlib.Core.Logic.{_⊎_, inl, inr}
-use mathlib.Core.Path.{_≡_, refl, sym, ap, _∙_, subst₂}
+use mathlib.Core.Path.{_≡_, refl, sym, subst₂}
 use Prim.Native.Nat.{ℕ, _≤_, _<_}
 use native.Mathlib.Omega.{arith}
-use borrow.Author.Tests.{lt-ltb, le-leb, eqb-false}
+use borrow.Author.Tests.{lt-ltb, le-leb, eqb-true, eqb-false}
 use lib.Dec.{leb, ltb, eqb}
 use lib.ListN.{length, drop}
 use Rattle.model.proofs.Bounds.{runs-within}
 use Rattle.model.specs.Inputs.{inputSlots}
 use Rattle.model.specs.Running.{startControl, startStore}
-use Rattle.noninterference.proofs.Checks.{eqb-eq}
 use Rattle.noninterference.proofs.Demand3.{demand-3}
 use Rattle.noninterference.specs.Alike.{Alike, SameReads}
-use Rattle.script_file.specs.Checks.{passes1, passes2, passes3, passes4, passes5, passes6, passes7, lowest, refusal}
+use Rattle.script_file.specs.Checks.{passes1, passes2, passes3, passes4, passes5, passes6, passes7, refusal}
 use Rattle.script_file.specs.Program.{fileInputs, fileProgram, fileAccount, fileRun}
 use Rattle.script_file.specs.Sections.{header}
+use Rattle.script_file.proofs.Tests.{lowest-most}
+use Rattle.script_file.proofs.Answers.{within-limits}
 use Rattle.view.specs.Reading.{Reading, refuse, viewed, fileView, reading}
 use Rattle.monitor.specs.Answers.{reads}
 use Rattle.monitor.specs.declared.Answer.{Answer}
-use Rattle.monitor.proofs.Parts.{inputs-allowed}
 
 -- ── demand 1: total ──
 
@@ -38,19 +38,9 @@ pub record IsViewed (bs : List ℕ) (i : ℕ) (b : List ℕ) (q : Reading) : Typ
   pub places : fileRun bs .account .next ≤ header bs .places
   pub shown : q ≡ record { answer = viewed (length (fileView bs i)); buffer = fileView bs i ++ drop (length (fileView bs i)) b }
 
-seven : (a b c d e f g : Bool) → lowest 1 (a ∷ b ∷ c ∷ d ∷ e ∷ f ∷ g ∷ []) ≤ 7
-seven false b c d e f g = omega arith
-seven true false c d e f g = omega arith
-seven true true false d e f g = omega arith
-seven true true true false e f g = omega arith
-seven true true true true false f g = omega arith
-seven true true true true true false g = omega arith
-seven true true true true true true false = omega arith
-seven true true true true true true true = omega arith
-
 refusal-most : (bs : List ℕ) → refusal bs ≤ 7
 unfolding refusal
-refusal-most bs = seven (passes1 bs) (passes2 bs) (passes3 bs) (passes4 bs) (passes5 bs) (passes6 bs) (passes7 bs)
+refusal-most bs = lowest-most 0 (passes1 bs ∷ passes2 bs ∷ passes3 bs ∷ passes4 bs ∷ passes5 bs ∷ passes6 bs ∷ passes7 bs ∷ [])
 
 not-zero : (n : ℕ) → eqb n 0 ≡ false → 1 ≤ n
 not-zero n e = let z = eqb-false n 0 e in omega arith
@@ -58,7 +48,7 @@ not-zero n e = let z = eqb-false n 0 e in omega arith
 within : (bs : List ℕ) → refusal bs ≡ 0 → (fileRun bs .account .steps ≤ header bs .steps) × (fileRun bs .account .next ≤ header bs .places)
 unfolding fileRun fileAccount
 within bs z =
-    let w = runs-within (fileProgram bs) startControl (fileAccount bs) (startStore (inputSlots (fileInputs bs))) (inputs-allowed bs z) in
+    let w = runs-within (fileProgram bs) startControl (fileAccount bs) (startStore (inputSlots (fileInputs bs))) (within-limits bs z .inputs-fit) in
     (w .steps, w .allotted)
 
 pub demand-1 : (bs : List ℕ) (i : ℕ) (b : List ℕ) → IsRefused b (reading bs i b) ⊎ IsViewed bs i b (reading bs i b)
@@ -75,7 +65,7 @@ demand-1 bs i b = loads (eqb (refusal bs) 0) refl
     listed z false l = inl (record { number = 8; least = omega arith; most = omega arith; untouched = rw (z, l) })
 
     loads : (t : Bool) → eqb (refusal bs) 0 ≡ t → IsRefused b (reading bs i b) ⊎ IsViewed bs i b (reading bs i b)
-    loads true e = listed (eqb-eq (refusal bs) 0 e) (ltb i (header bs .labels .count)) refl
+    loads true e = listed (eqb-true (refusal bs) 0 e) (ltb i (header bs .labels .count)) refl
     loads false e =
         inl (record { number = refusal bs; least = not-zero (refusal bs) e; most = omega (arith, refusal-most bs); untouched = rw e })
 

@@ -3,7 +3,6 @@ use labels::Label;
 use machine::State;
 use model::Contents;
 use model::Datum;
-use model::Kind;
 use model::Record;
 use script_file::Header;
 use script_file::Loaded;
@@ -11,9 +10,9 @@ use view::Finish;
 ghost use mathlib.Core.Path.{_≡_};
 ghost use Prim.Native.Nat.{_*_, _/_, _≤_, _<_};
 ghost use lib.ListN.{length};
-ghost use Rattle.model.specs.Inputs.{kindOf, inputs, inputSlots};
+ghost use Rattle.model.specs.Inputs.{inputs, inputSlots};
 ghost use Rattle.model.specs.Running.{startStore};
-ghost use Rattle.operands.specs.Program.{labelAt as labelIn};
+ghost use Rattle.model.specs.Words.{labelIn};
 ghost use Rattle.store.specs.Slots.{words, slots};
 ghost use Rattle.view.specs.Layout.{view as viewOf};
 ghost use Rattle.view.specs.Reading.{reading, show as shows};
@@ -47,15 +46,6 @@ fn show(reader: Label, steps: usize, finish: Finish, store: &[u64], buffer: &mut
 
 // ---- input records
 
-fn kind_of(b: u8) -> Kind
-    ensures { λ r. ⌜ r ≡ kindOf b ⌝ }
-{
-    if b == 0 {
-        return Kind::Sealed;
-    }
-    Kind::Reference
-}
-
 // Input record i, of the six bytes at 6 i.
 fn input_record(records: &[u8], labels: &[u64], i: usize) -> Record
     requires { ⌜ (i < 256) × (length (now labels) ≡ 64) ⌝ }
@@ -63,7 +53,7 @@ fn input_record(records: &[u8], labels: &[u64], i: usize) -> Record
 {
     let at = 6 * i;
     Record {
-        kind: kind_of(decode::byte_at(records, at)),
+        kind: operands::kind_of(decode::byte_at(records, at)),
         label: operands::label_at(labels, decode::byte_at(records, at + 1) as usize),
         contents: Contents::Value(Datum::Number(decode::u32_at(records, at + 2))),
     }

@@ -3,11 +3,10 @@
 use mathlib.Core.Bool.{true}
 use mathlib.Core.List.{List, [], _∷_}
 use mathlib.Core.Path.{_≡_, refl, sym, _∙_}
-use Prim.Native.Nat.{ℕ}
+use Prim.Native.Nat.{ℕ, _≤_}
 use native.Mathlib.Omega.{arith}
-use lib.ListN.{length, length-append, length-replicate}
-use Rattle.labels.specs.Order.{flows, join}
-use Rattle.labels.proofs.Laws.{labels}
+use lib.ListN.{length, length-drop, length-append, length-replicate}
+use Rattle.labels.specs.Order.{flows}
 use Rattle.model.specs.State.{Control, Account, Store}
 use Rattle.model.specs.Decoding.{u16}
 use Rattle.model.specs.Inputs.{Input, inputSlots}
@@ -16,16 +15,16 @@ use Rattle.model.specs.Running.{runs, startControl, startStore}
 use Rattle.model.proofs.Kept.{LowSet, run-kept}
 use Rattle.model.proofs.LowEquivalence.{Twin}
 use Rattle.model.proofs.Landing.{Lands}
-use Rattle.model.proofs.Start.{AlikeInputs, length-slots, numbers-point, start-fresh, start-equivalent}
+use Rattle.model.proofs.Start.{AlikeInputs, length-inputs, length-slots, numbers-point, start-fresh, start-equivalent}
 use Rattle.model.proofs.Reached.{Reached, Holds, nextPlan, all, Safe, reached-safe, safe-holds}
 use Rattle.script_file.specs.Sections.{header, recordBytes, codeBytes, labelAt}
 use Rattle.script_file.specs.Sweep.{among, starts, instrOk, codeOk}
 use Rattle.script_file.specs.Checks.{passes7, refusal}
 use Rattle.script_file.specs.Program.{fileInputs, fileProgram, fileAccount, fileRun}
+use Rattle.script_file.proofs.Answers.{accepted as passes, within-limits, in-place}
 use Rattle.view.specs.Reading.{fileView}
 use Rattle.view.proofs.LengthField.{length-field-places}
-use Rattle.noninterference.proofs.Checks.{from-T, refusal-each, inputs-few, places-fit, code-there}
-use Rattle.noninterference.proofs.Sections.{inputs-count}
+use Rattle.noninterference.proofs.Demand3.{low-set}
 use Rattle.noninterference.proofs.Starts.{start-ok, lands, start-zero}
 
 -- what holds of each state that the run of a file comes to
@@ -37,13 +36,7 @@ pub record NoTotals (bs : List ℕ) (c : Control) (σ : Store) : Type 0 where
   pub record-there : (a : Account) (r : Control) (q : Request) → nextPlan (fileProgram bs) c a ≡ asks r q → Holds σ q
 
 every-label : (bs : List ℕ) → LowSet (fileProgram bs) all
-unfolding fileProgram
-every-label bs =
-    record {
-      down = λ k l e f. refl;
-      join-left = λ k l. from-T (flows k (join k l)) (labels .le-left k l);
-      join-right = λ k l. from-T (flows l (join k l)) (labels .le-right k l);
-    }
+every-label bs = low-set bs all (λ k l e f. refl)
 
 alike-self : (xs : List Input) → AlikeInputs all xs xs
 alike-self [] = tt
@@ -56,11 +49,15 @@ module _ (bs : List ℕ) (ok : refusal bs ≡ 0) where
 
   code-ok : codeOk (header bs .labels .count) (header bs .records .count) (codeBytes bs) ≡ true
   unfolding passes7
-  code-ok = refusal-each bs ok .1 .1 .1 .1 .1 .1 .0
+  code-ok = passes bs ok .code
 
   goes-to-starts : (pc : ℕ) → Starts pc → Lands Starts (fileProgram bs .after pc) (fileProgram bs .fetch pc)
   unfolding fileProgram
   goes-to-starts = lands (header bs .labels .count) (header bs .records .count) (codeBytes bs) code-ok
+
+  code-there : 1 ≤ length (codeBytes bs)
+  unfolding codeBytes
+  code-there = simp length-drop (omega (arith, within-limits bs ok .some-code, in-place bs ok .whole))
 
   start : Store
   start = startStore (inputSlots (fileInputs bs))
@@ -69,11 +66,10 @@ module _ (bs : List ℕ) (ok : refusal bs ≡ 0) where
   unfolding fileAccount fileProgram start fileInputs
   start-safe =
       record {
-        at-start = start-zero (header bs .labels .count) (header bs .records .count) (codeBytes bs) code-ok
-            (code-there bs (refusal-each bs ok .1 .0) (refusal-each bs ok .1 .1 .0));
+        at-start = start-zero (header bs .labels .count) (header bs .records .count) (codeBytes bs) code-ok code-there;
         handlers = tt;
         fresh = start-fresh (fileInputs bs) (labelAt bs 0) (labelAt bs 1) (header bs .steps) (header bs .records .count) (header bs .places)
-            (sym (inputs-count (labelAt bs) (recordBytes bs) (header bs .records .count) 0)) (places-fit bs (refusal-each bs ok .1 .0));
+            (sym (length-inputs (labelAt bs) (recordBytes bs) (header bs .records .count) 0)) (within-limits bs ok .places);
         reach = record { stack = tt; locals = numbers-point (Twin start start) 16 };
         closed = start-equivalent (fileProgram bs) all (fileInputs bs) (fileInputs bs) (alike-self (fileInputs bs)) refl;
       }
@@ -95,7 +91,7 @@ module _ (bs : List ℕ) (ok : refusal bs ≡ 0) where
   unfolding fileRun runs start startStore fileInputs
   store-places =
       sym (run-kept (fileProgram bs) all (every-label bs) (fileAccount bs .steps) startControl (fileAccount bs) start (start-safe .fresh) .sized)
-      ∙ simp (length-append, length-replicate, length-slots, inputs-count) (omega (arith, inputs-few bs (refusal-each bs ok .1 .0)))
+      ∙ simp (length-append, length-replicate, length-slots, length-inputs) (omega (arith, within-limits bs ok .records))
 
   -- "A view is as many bytes as its length field says."
   pub view-length : (i : ℕ) → u16 (fileView bs i) 10 ≡ length (fileView bs i)

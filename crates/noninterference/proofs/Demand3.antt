@@ -6,40 +6,47 @@ use mathlib.Core.Path.{_≡_, refl, sym, ap, ap₂, _∙_, subst}
 use Prim.Native.Nat.{ℕ}
 use native.Mathlib.Omega.{arith}
 use lib.Dec.{leb, ltb, eqb}
+use borrow.Author.Tests.{leb-true}
 use lib.ListN.{length}
 use lib.Seq.{ext-getD}
+use Rattle.formulas.proofs.Tests.{T-eq, T-true}
 use Rattle.labels.specs.Order.{flows, join}
 use Rattle.labels.specs.declared.Label.{Label}
 use Rattle.labels.proofs.Laws.{labels}
 use Rattle.model.specs.State.{Outcome}
 use Rattle.model.specs.Inputs.{inputSlots}
 use Rattle.model.specs.Running.{runs, startControl, startStore}
-use Rattle.model.proofs.Tests.{leb-le, cond-two}
+use Rattle.model.proofs.Tests.{cond-two}
 use Rattle.model.proofs.Kept.{LowSet}
 use Rattle.model.proofs.LowEquivalence.{LowOutcomes}
-use Rattle.model.proofs.Start.{AlikeInputs, alike-handles, two-starts}
+use Rattle.model.proofs.Start.{AlikeInputs, alike-handles, length-inputs, two-starts}
 use Rattle.script_file.specs.declared.Header.{Header}
 use Rattle.script_file.specs.Sections.{header, recordBytes, labelAt}
 use Rattle.script_file.specs.Checks.{passes1, passes2, passes3, passes4, passes5, passes7, refusal}
 use Rattle.script_file.specs.Program.{fileInputs, fileProgram, fileAccount, fileRun}
+use Rattle.script_file.proofs.Limits.{counted}
 use Rattle.view.specs.Layout.{view}
 use Rattle.view.specs.Reading.{fileView, show, reading}
 use Rattle.view.proofs.SameView.{same-view}
 use Rattle.noninterference.specs.Alike.{legible, Alike, SameReads, both-refused, both-viewed}
-use Rattle.noninterference.proofs.Checks.{from-T, to-T, legible-each, places-fit}
-use Rattle.noninterference.proofs.Sections.{inputs-count, same-header, same-labels, same-label, same-code, alike-inputs}
+use Rattle.noninterference.proofs.Sections.{legible-each, same-header, same-labels, same-label, same-code, alike-inputs}
 
 -- ── the labels that a reader sees ──
 
+-- A set that is closed downward is one that two runs are compared under: both labels flow to their join.
+pub low-set : (bs : List ℕ) (Low : Label → Bool) → ((k l : Label) → flows k l ≡ true → Low l ≡ true → Low k ≡ true)
+    → LowSet (fileProgram bs) Low
+unfolding fileProgram
+low-set bs Low down =
+    record {
+      down = down;
+      join-left = λ k l. T-true (flows k (join k l)) (labels .le-left k l);
+      join-right = λ k l. T-true (flows l (join k l)) (labels .le-right k l);
+    }
+
 -- The labels that flow to a reading label are closed downward, under the order of labels.
 readable : (bs : List ℕ) (m : Label) → LowSet (fileProgram bs) (λ l. flows l m)
-unfolding fileProgram
-readable bs m =
-    record {
-      down = λ k l e f. from-T (flows k m) (labels .le-trans k l m (to-T (flows k l) e) (to-T (flows l m) f));
-      join-left = λ k l. from-T (flows k (join k l)) (labels .le-left k l);
-      join-right = λ k l. from-T (flows l (join k l)) (labels .le-right k l);
-    }
+readable bs m = low-set bs (λ l. flows l m) (λ k l e f. T-true (flows k m) (labels .le-trans k l m (T-eq (sym e) tt) (T-eq (sym f) tt)))
 
 -- ── two files that none of 1 to 4, 6 and 8 stops ──
 
@@ -71,11 +78,11 @@ module _ (bs cs : List ℕ) (i : ℕ) (A : Alike bs cs i) (lb : legible bs i ≡
   middle = runs (fileProgram bs) startControl (fileAccount bs) (startStore (inputSlots (fileInputs cs)))
 
   two : LowOutcomes (fileProgram bs) (λ l. flows l (labelAt bs i)) (fileRun bs) middle
-  unfolding fileRun fileProgram fileAccount middle fileInputs
+  unfolding fileRun fileProgram fileAccount middle fileInputs passes2
   two =
       two-starts (fileProgram bs) (λ l. flows l (labelAt bs i)) (fileInputs bs) (fileInputs cs) alike (readable bs (labelAt bs i)) refl
       (labelAt bs 0) (labelAt bs 1) (header bs .steps) (header bs .records .count) (header bs .places)
-      (sym (inputs-count (labelAt bs) (recordBytes bs) (header bs .records .count) 0)) (places-fit bs (legible-each bs i lb .1 .0))
+      (sym (length-inputs (labelAt bs) (recordBytes bs) (header bs .records .count) 0)) (counted (header bs) (legible-each bs i lb .1 .0) .places)
 
   same-run : middle ≡ fileRun cs
   unfolding fileRun middle
@@ -95,7 +102,7 @@ module _ (b d : List ℕ) (sized : length b ≡ length d) where
   same-shows v =
       rw (← sized)
       (cond-two (SameReads b d) (leb (length v) (length b))
-      (λ e. let le = leb-le (length v) (length b) e in both-viewed v le (omega arith))
+      (λ e. let le = leb-true (length v) (length b) e in both-viewed v le (omega arith))
       (λ _. both-refused 9))
 
   same-reads : (bs cs : List ℕ) (i : ℕ) → refusal bs ≡ refusal cs → header bs ≡ header cs → fileView bs i ≡ fileView cs i

@@ -1,5 +1,4 @@
 -- Demand 3, and what it rests on.
-pub mod Checks
 pub mod Starts
 pub mod Sections
 pub mod Demand3

@@ -1,11 +1,11 @@
 -- Two alike files that none of 1 to 4, 6 and 8 stops: one header, the same labels and code, and alike input records.
 use mathlib.Core.Bool.{true, false, true≢false}
-use mathlib.Core.List.{List}
+use mathlib.Core.List.{List, [], _∷_}
 use mathlib.Core.Option.{Option}
-use mathlib.Core.Path.{_≡_, refl, sym, ap, _∙_, subst, subst₂}
+use mathlib.Core.Path.{_≡_, sym, ap, _∙_, subst, subst₂}
 use Prim.Native.Nat.{ℕ, zero, suc, _+_, _-_, _*_, _≤_, _<_}
 use native.Mathlib.Omega.{arith}
-use lib.Dec.{lit<}
+use lib.Dec.{ltb, lit<}
 use lib.ListN.{length, getD, take, drop, length-take, length-drop}
 use lib.Seq.{ext-getD, getD-take, getD-drop}
 use Rattle.labels.specs.Order.{flows}
@@ -15,10 +15,11 @@ use Rattle.model.specs.Inputs.{kindOf, inputs}
 use Rattle.model.proofs.Start.{AlikeInputs}
 use Rattle.script_file.specs.declared.Header.{Header}
 use Rattle.script_file.specs.Sections.{header, labelBytes, recordBytes, codeBytes, readLabels, fileLabels, orNone, labelAt}
-use Rattle.script_file.specs.Checks.{passes3}
+use Rattle.script_file.specs.Checks.{passes1, passes2, passes3, passes4, passes6}
 use Rattle.script_file.specs.Program.{fileInputs}
+use Rattle.script_file.proofs.Tests.{Each, every-each}
+use Rattle.script_file.proofs.Limits.{Placed, placed}
 use Rattle.noninterference.specs.Alike.{legible, recordAt, inputLabel, Hidden, Alike}
-use Rattle.noninterference.proofs.Checks.{legible-each, records-behind, code-behind}
 
 -- ── parts of two lists ──
 
@@ -41,10 +42,11 @@ unfolding recordBytes
 record-byte bs q lt =
     getD-take (6 * header bs .records .count) (drop (header bs .records .offset) bs) q 0 lt ∙ getD-drop (header bs .records .offset) bs q 0
 
-pub inputs-count : (ls : ℕ → Label) (bs : List ℕ) (n i : ℕ) → length (inputs ls bs n i) ≡ n
-unfolding inputs
-inputs-count ls bs zero i = refl
-inputs-count ls bs (suc n) i = ap suc (inputs-count ls bs n (i + 6))
+-- none of 1 to 4, 6 and 8 stops the file
+pub legible-each : (bs : List ℕ) (i : ℕ) → legible bs i ≡ true
+    → Each (passes1 bs ∷ passes2 bs ∷ passes3 bs ∷ passes4 bs ∷ passes6 bs ∷ ltb i (header bs .labels .count) ∷ [])
+unfolding legible
+legible-each bs i e = every-each _ e
 
 -- ── two alike files ──
 
@@ -52,15 +54,16 @@ module _ (bs cs : List ℕ) (i : ℕ) (A : Alike bs cs i) (lb : legible bs i ≡
   same-byte : (p : ℕ) → ¬ Hidden bs i p → byte bs p ≡ byte cs p
   same-byte p h = A .bytes p (λ (u, v, w). h w)
 
-  third : passes3 bs ≡ true
-  third = legible-each bs i lb .1 .1 .0
+  ordered : Placed (header bs) (length bs)
+  unfolding passes3
+  ordered = placed (header bs) (length bs) (legible-each bs i lb .1 .1 .0)
 
   -- before the records
   front : (p : ℕ) → p < header bs .records .offset → byte bs p ≡ byte cs p
   front p lt = same-byte p (λ h. omega (arith, h .from))
 
   head : (p : ℕ) → p < 16 → byte bs p ≡ byte cs p
-  head p lt = front p (omega (arith, records-behind bs third))
+  head p lt = front p (omega (arith, ordered .records))
 
   pub same-header : header bs ≡ header cs
   unfolding header u16
@@ -88,7 +91,7 @@ module _ (bs cs : List ℕ) (i : ℕ) (A : Alike bs cs i) (lb : legible bs i ≡
   unfolding fileLabels labelBytes
   same-labels =
       ap (readLabels (header bs .labels .count))
-      (same-slice bs cs (A .sized) 16 (header bs .records .offset - 16) (λ p _ lt. front p (omega (arith, records-behind bs third))))
+      (same-slice bs cs (A .sized) 16 (header bs .records .offset - 16) (λ p _ lt. front p (omega (arith, ordered .records))))
       ∙ ap (λ (h : Header). readLabels (h .labels .count) (take (h .records .offset - 16) (drop 16 cs))) same-header
 
   pub same-label : labelAt bs ≡ labelAt cs
@@ -98,7 +101,7 @@ module _ (bs cs : List ℕ) (i : ℕ) (A : Alike bs cs i) (lb : legible bs i ≡
   pub same-code : codeBytes bs ≡ codeBytes cs
   unfolding codeBytes
   same-code =
-      same-drop bs cs (A .sized) (header bs .code .offset) (λ p le. same-byte p (λ h. omega (arith, h .counted, h .to, code-behind bs third)))
+      same-drop bs cs (A .sized) (header bs .code .offset) (λ p le. same-byte p (λ h. omega (arith, h .counted, h .to, ordered .code)))
       ∙ ap (λ (h : Header). drop (h .code .offset) cs) same-header
 
   -- kind and label index of input record j

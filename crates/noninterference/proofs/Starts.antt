@@ -1,19 +1,19 @@
 -- Check 7: in code that passes it, the places that a run goes to from an instruction's start are starts.
-use mathlib.Core.Bool.{Bool, true, false, true≢false, _||_}
+use mathlib.Core.Bool.{Bool, true, false, true≢false, _||_, and-eq-true-iff, or-eq-true-iff}
 use mathlib.Core.List.{List, [], _∷_}
-use mathlib.Core.Logic.{_⊎_, inl, inr}
+use mathlib.Core.Logic.{_⊎_, inl, inr, Or·inr}
 use mathlib.Core.Path.{_≡_, refl, sym, ap, _∙_, subst}
-use Prim.Native.Nat.{ℕ, zero, suc, _+_, _≤_}
+use Prim.Native.Nat.{ℕ, zero, suc, _+_, _≤_, _<_}
 use native.Mathlib.Omega.{arith}
-use lib.Dec.{leb, ltb, eqb, eqb-refl, le→leb}
+use lib.Dec.{leb, ltb, eqb}
+use borrow.Author.Tests.{ltb-true, ltb-false, leb-true, eqb-true, eq-eqb}
 use lib.ListN.{length, getD}
 use Rattle.model.specs.Decoding.{byte, known, size, instrs, fetch, after}
 use Rattle.model.specs.declared.Instr.{Instr}
 use Rattle.model.specs.declared.Instr.the-variants.{End, Push, Lab, Get, Set, Pop, Add, Sub, Less, Same, Jump, Ifz, Cur, Clr, Raise, Lower, Flows, Join, Meet, Seal, Open, Labof, New, Read, Write, Block, Try, Done, Throw, Input}
-use Rattle.model.proofs.Tests.{leb-le, both-left, both-right}
 use Rattle.model.proofs.Landing.{Lands}
 use Rattle.script_file.specs.Sweep.{sweep, starts, among, all, operandsOk, instrOk, mayBeLast, lastOf, codeOk}
-use Rattle.noninterference.proofs.Checks.{from-T, eqb-eq}
+use Rattle.script_file.proofs.Starts.{size-some, sweep-past, sweep-here, after-step}
 
 -- ── tests ──
 
@@ -21,43 +21,22 @@ either : (s t : Bool) → (s || t) ≡ true → (s ≡ true) ⊎ (t ≡ true)
 either true t e = inl refl
 either false t e = inr e
 
-or-left : (s t : Bool) → s ≡ true → (s || t) ≡ true
-or-left true t e = refl
-or-left false t e = absurd (true≢false (sym e))
-
-or-right : (s t : Bool) → t ≡ true → (s || t) ≡ true
-or-right true t e = refl
-or-right false t e = e
-
 -- what holds of all holds of each
 all-among : (f : ℕ → Bool) (is : List ℕ) (t : ℕ) → all f is ≡ true → among t is ≡ true → f t ≡ true
 all-among f [] t e h = absurd (true≢false (sym h))
-all-among f (i ∷ is) t e h = one (all-among f is t (both-right (f i) (all f is) e)) (either (eqb t i) (among t is) h)
+all-among f (i ∷ is) t e h = one (all-among f is t (and-eq-true-iff (f i) (all f is) .0 e .1)) (either (eqb t i) (among t is) h)
   where
     one : (among t is ≡ true → f t ≡ true) → (eqb t i ≡ true) ⊎ (among t is ≡ true) → f t ≡ true
-    one later (inl g) = ap f (eqb-eq t i g) ∙ both-left (f i) (all f is) e
+    one later (inl g) = ap f (eqb-true t i g) ∙ and-eq-true-iff (f i) (all f is) .0 e .0
     one later (inr g) = later g
 
 -- ── the sweep ──
 
 module _ (code : List ℕ) where
-  size-one : (op : ℕ) → 1 ≤ size op
-  unfolding size
-  size-one op = omega arith
-
-  sweep-one : (f i : ℕ) → ltb i (length code) ≡ true → sweep (suc f) code i ≡ (i ∷ sweep f code (i + size (byte code i)))
-  unfolding sweep
-  sweep-one f i e = rw e
-
-  sweep-none : (f i : ℕ) → ltb i (length code) ≡ false → sweep f code i ≡ []
-  unfolding sweep
-  sweep-none zero i e = refl
-  sweep-none (suc f) i e = rw e
-
   -- with fuel for the bytes left, a place in the code is the first of its sweep
-  sweep-head : (f i : ℕ) → length code ≤ f + i → ltb i (length code) ≡ true → among i (sweep f code i) ≡ true
-  sweep-head zero i le e = absurd (omega (arith, leb-le (suc i) (length code) e))
-  sweep-head (suc f) i le e = rw (sweep-one f i e) (or-left (eqb i i) (among i (sweep f code (i + size (byte code i)))) (from-T (eqb i i) (eqb-refl i)))
+  sweep-head : (f i : ℕ) → length code ≤ f + i → i < length code → among i (sweep f code i) ≡ true
+  sweep-head zero i le lt = absurd (omega arith)
+  sweep-head (suc f) i le lt = rw (sweep-here code f i lt, eq-eqb i i refl)
 
   -- behind a start there is a start, or it is the last
   abbrev Follows : ℕ → List ℕ → ℕ → Type 0
@@ -72,29 +51,31 @@ module _ (code : List ℕ) where
       k = j + size (byte code j)
 
       more : length code ≤ f + k
-      more = omega (arith, size-one (byte code j))
+      more = omega (arith, size-some (byte code j))
 
       rest : List ℕ
       rest = sweep f code k
 
       -- j itself
       itself : (t : Bool) → ltb k (length code) ≡ t → Follows d (j ∷ rest) j
-      itself true e = inl (or-right (eqb k j) (among k rest) (sweep-head f k more e))
-      itself false e = inr (ap (lastOf j) (sweep-none f k e))
+      itself true e = inl (or-eq-true-iff (eqb k j) (among k rest) .1 (Or·inr (sweep-head f k more (ltb-true k (length code) e))))
+      itself false e = inr (ap (lastOf j) (sweep-past code f k (ltb-false k (length code) e)))
 
       later : Follows j rest i → Follows d (j ∷ rest) i
-      later (inl g) = inl (or-right (eqb (i + size (byte code i)) j) (among (i + size (byte code i)) rest) g)
+      later (inl g) = inl (or-eq-true-iff (eqb (i + size (byte code i)) j) (among (i + size (byte code i)) rest) .1 (Or·inr g))
       later (inr g) = inr g
 
       one : (among i rest ≡ true → Follows j rest i) → (eqb i j ≡ true) ⊎ (among i rest ≡ true) → Follows d (j ∷ rest) i
-      one next (inl g) = subst (Follows d (j ∷ rest)) (sym (eqb-eq i j g)) (itself (ltb k (length code)) refl)
+      one next (inl g) = subst (Follows d (j ∷ rest)) (sym (eqb-true i j g)) (itself (ltb k (length code)) refl)
       one next (inr g) = later (next g)
 
       inside : (among i rest ≡ true → Follows j rest i) → (t : Bool) → ltb j (length code) ≡ t → Follows d (sweep (suc f) code j) i
       inside next true e =
-          subst (λ (is : List ℕ). Follows d is i) (sym (sweep-one f j e))
-          (one next (either (eqb i j) (among i rest) (subst (λ (is : List ℕ). among i is ≡ true) (sweep-one f j e) h)))
-      inside next false e = absurd (true≢false (sym (subst (λ (is : List ℕ). among i is ≡ true) (sweep-none (suc f) j e) h)))
+          let first = sweep-here code f j (ltb-true j (length code) e) in
+          subst (λ (is : List ℕ). Follows d is i) (sym first)
+          (one next (either (eqb i j) (among i rest) (subst (λ (is : List ℕ). among i is ≡ true) first h)))
+      inside next false e =
+          absurd (true≢false (sym (subst (λ (is : List ℕ). among i is ≡ true) (sweep-past code (suc f) j (ltb-false j (length code) e)) h)))
 
 -- ── where code goes ──
 
@@ -142,27 +123,21 @@ module _ (l c : ℕ) (code : List ℕ) (ok : codeOk l c code ≡ true) where
   unfolding codeOk
   start-ok pc h =
       all-among (instrOk l c code) (starts code) pc
-      (both-left (all (instrOk l c code) (starts code)) (mayBeLast (byte code (lastOf 0 (starts code)))) ok) h
+      (and-eq-true-iff (all (instrOk l c code) (starts code)) (mayBeLast (byte code (lastOf 0 (starts code)))) .0 ok .0) h
 
-  start-fits : (pc : ℕ) → Start pc → pc + size (byte code pc) ≤ length code
+  -- its bytes are the code's, and its operands within their limits
+  start-fits : (pc : ℕ) → Start pc → (pc + size (byte code pc) ≤ length code) × (operandsOk l c (starts code) (fetch code pc) ≡ true)
   unfolding instrOk
   start-fits pc h =
-      leb-le (pc + size (byte code pc)) (length code)
-      (both-left (leb (pc + size (byte code pc)) (length code)) _ (both-right (known (byte code pc)) _ (start-ok pc h)))
-
-  operands-fit : (pc : ℕ) → Start pc → operandsOk l c (starts code) (fetch code pc) ≡ true
-  unfolding instrOk
-  operands-fit pc h =
-      both-right (leb (pc + size (byte code pc)) (length code)) _ (both-right (known (byte code pc)) _ (start-ok pc h))
+      let fits = and-eq-true-iff (leb (pc + size (byte code pc)) (length code)) _ .0 (and-eq-true-iff (known (byte code pc)) _ .0 (start-ok pc h) .1) in
+      (leb-true (pc + size (byte code pc)) (length code) (fits .0), fits .1)
 
   start-next : (pc : ℕ) → Start pc → Follows code 0 (starts code) pc
   unfolding starts
   start-next pc h = sweep-next code (length code) 0 0 pc (omega arith) h
 
   after-is : (pc : ℕ) → Start pc → after code pc ≡ pc + size (byte code pc)
-  unfolding after
-  after-is pc h =
-      rw (from-T (ltb pc (length code)) (le→leb (suc pc) (length code) (omega (arith, start-fits pc h, size-one code (byte code pc)))))
+  after-is pc h = after-step code pc (omega (arith, start-fits pc h .0, size-some (byte code pc)))
 
   -- the last instruction is END, JUMP or THROW
   last-lands : (pc : ℕ) → Start pc → mayBeLast (byte code pc) ≡ true → Lands Start (after code pc) (fetch code pc)
@@ -178,13 +153,13 @@ module _ (l c : ℕ) (code : List ℕ) (ok : codeOk l c code ≡ true) where
 
       by-two : (eqb (byte code pc) 0x0A ≡ true) ⊎ (eqb (byte code pc) 0x1C ≡ true) → Lands Start (after code pc) (fetch code pc)
       by-two (inl g) =
-          let jumps = eqb-eq (byte code pc) 0x0A g in
-          by-opcode 0x0A jumps (subst (λ (o : ℕ). operandsOk l c (starts code) (with-opcode o) ≡ true) jumps (operands-fit pc h))
-      by-two (inr g) = by-opcode 0x1C (eqb-eq (byte code pc) 0x1C g) tt
+          let jumps = eqb-true (byte code pc) 0x0A g in
+          by-opcode 0x0A jumps (subst (λ (o : ℕ). operandsOk l c (starts code) (with-opcode o) ≡ true) jumps (start-fits pc h .1))
+      by-two (inr g) = by-opcode 0x1C (eqb-true (byte code pc) 0x1C g) tt
 
       by : (eqb (byte code pc) 0x00 ≡ true) ⊎ ((eqb (byte code pc) 0x0A || eqb (byte code pc) 0x1C) ≡ true)
           → Lands Start (after code pc) (fetch code pc)
-      by (inl g) = by-opcode 0x00 (eqb-eq (byte code pc) 0x00 g) tt
+      by (inl g) = by-opcode 0x00 (eqb-true (byte code pc) 0x00 g) tt
       by (inr g) = by-two (either (eqb (byte code pc) 0x0A) (eqb (byte code pc) 0x1C) g)
 
   pub lands : (pc : ℕ) → Start pc → Lands Start (after code pc) (fetch code pc)
@@ -193,14 +168,14 @@ module _ (l c : ℕ) (code : List ℕ) (ok : codeOk l c code ≡ true) where
     where
       by : Follows code 0 (starts code) pc → Lands Start (after code pc) (fetch code pc)
       by (inl g) =
-          lands-next l c (after code pc) (starts code) (fetch code pc) (operands-fit pc h)
+          lands-next l c (after code pc) (starts code) (fetch code pc) (start-fits pc h .1)
           (ap (λ (p : ℕ). among p (starts code)) (after-is pc h) ∙ g)
       by (inr g) =
           last-lands pc h
           (subst (λ (p : ℕ). mayBeLast (byte code p) ≡ true) g
-          (both-right (all (instrOk l c code) (starts code)) (mayBeLast (byte code (lastOf 0 (starts code)))) ok))
+          (and-eq-true-iff (all (instrOk l c code) (starts code)) (mayBeLast (byte code (lastOf 0 (starts code)))) .0 ok .1))
 
   -- a run starts at one
   pub start-zero : 1 ≤ length code → Start 0
   unfolding starts
-  start-zero n = sweep-head code (length code) 0 (omega arith) (from-T (ltb 0 (length code)) (le→leb 1 (length code) n))
+  start-zero n = sweep-head code (length code) 0 (omega arith) n

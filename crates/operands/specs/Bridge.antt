@@ -2,7 +2,7 @@
 use mathlib.Core.Bool.{Bool, true, false, cond}
 use mathlib.Core.Path.{_≡_, refl, sym, ap, _∙_}
 use mathlib.Core.List.{List, [], _∷_}
-use Prim.Native.Nat.{ℕ, zero, suc, _+_, _-_, _^_, _%_, _≤_, _<_}
+use Prim.Native.Nat.{ℕ, _+_, _-_, _^_, _%_, _≤_}
 use native.Mathlib.Omega.{arith}
 use lib.Dec.{leb, ltb, eqb, eqb·suc-zero}
 use borrow.Author.Tests.{leb-true}
@@ -16,12 +16,12 @@ use Rattle.model.specs.declared.Value.{Value}
 use Rattle.model.specs.declared.Frame.{Frame}
 use Rattle.model.specs.declared.Instr.{Instr}
 use Rattle.model.specs.declared.Instr.the-variants.{End, Push, Lab, Get, Set, Pop, Add, Sub, Less, Same, Jump, Ifz, Cur, Clr, Raise, Lower, Flows, Join, Meet, Seal, Open, Labof, New, Read, Write, Block, Try, Done, Throw, Input}
-use Rattle.model.specs.State.{Control, Account, Program, number, value, push, jump, setLocal, withStack, withFrames}
-use Rattle.model.specs.Operands.{Plan as Asked, faults, asks, none, ends, throws, raises, lowers, labels, opens, makes, writes, blocks, popFrom, asNumber, asLabel, asHandle, asSealed, asReference, dropFrame, arity, operate, plan, popNumber, popLabel, pop, truth, pushes}
+use Rattle.model.specs.State.{Control, Account, number, push, jump, setLocal, withStack, withFrames}
+use Rattle.model.specs.Operands.{Plan as Asked, faults, asks, none, ends, throws, raises, lowers, labels, opens, makes, writes, popFrom, asNumber, asLabel, asHandle, asSealed, asReference, dropFrame, arity, operate, plan, popNumber, popLabel, pop, truth, pushes}
 use Rattle.operands.specs.declared.Plan.{Plan}
 use Rattle.operands.specs.declared.Plan.the-variants.{Fault, Drop, Push as Pushes, Get as Gets, Set as Sets, Jump as Jumps, Try as Tries, Done as Leaves, End as Ends, Throw as Throws, Raise as Raises, Lower as Lowers, Label as LabelOf, Open as Opens, Make as Makes, Write as Writes}
 use Rattle.operands.specs.declared.Operands.{Operands}
-use Rattle.operands.specs.Program.{labelAt, inputAt, program, input-at}
+use Rattle.operands.specs.Program.{program, input-at}
 use Rattle.operands.specs.Plans.{onNumber, onLabel, onHandle, onSealed, onReference, numbersOf, onNumbers, labelsOf, onLabels, operateOf, planOf}
 
 abbrev pub isBlock : Instr → Bool

@@ -1,5 +1,5 @@
 -- What the code makes of an instruction's operands.
-use mathlib.Core.Bool.{Bool, true, false, cond}
+use mathlib.Core.Bool.{cond}
 use mathlib.Core.List.{List}
 use mathlib.Core.Path.{_≡_}
 use Prim.Native.Nat.{ℕ, _+_, _-_, _^_, _%_, _<_}
@@ -22,7 +22,8 @@ use Rattle.operands.specs.declared.Numbers.the-variants.{Both, Neither}
 use Rattle.operands.specs.declared.Labels.{Labels}
 use Rattle.operands.specs.declared.Labels.the-variants.{Both as BothLabels, Neither as NeitherLabel}
 use Rattle.operands.specs.declared.Operands.{Operands}
-use Rattle.operands.specs.Program.{labelAt, inputAt}
+use Rattle.model.specs.Words.{labelIn}
+use Rattle.operands.specs.Program.{inputAt}
 
 -- ── kinds of operand: 22 where it is another ──
 
@@ -110,7 +111,7 @@ doneOf f = cond (eqb f 0) (Fault 29) Leaves
 unfoldable pub operateOf : Instr → Operands → List ℕ → List ℕ → Plan
 operateOf End o ws rs = Ends (o .top)
 operateOf (Push n) o ws rs = Pushes (Number n)
-operateOf (Lab i) o ws rs = Pushes (Labelled (labelAt ws i))
+operateOf (Lab i) o ws rs = Pushes (Labelled (labelIn ws i))
 operateOf (Get i) o ws rs = Gets i
 operateOf (Set i) o ws rs = Sets i (o .top)
 operateOf Pop o ws rs = Drop

@@ -1,7 +1,8 @@
--- What a file's parts are to the machine: the order is that of labels, label i is words 2i and 2i + 1.
+-- What a file's parts are to the machine: code, labels as words, input records.
 use mathlib.Core.Path.{_≡_, refl, sym, ap, _∙_}
 use mathlib.Core.Bool.{Bool, true, false, cond}
-use mathlib.Core.List.{List, [], _∷_}
+use mathlib.Core.Logic.{_≢_}
+use mathlib.Core.List.{List}
 use Prim.Native.Nat.{ℕ, zero, suc, _+_, _*_, _/_, _≤_, _<_}
 use native.Mathlib.Nat.{add-zero, zero-add}
 use native.Mathlib.Omega.{arith}
@@ -9,40 +10,29 @@ use lib.Dec.{ltb}
 use borrow.Author.Tests.{lt-ltb, le-ltb, ltb-true, ltb-false}
 use lib.ListN.{length, getD, List·getD-eq-default}
 use Rattle.labels.specs.declared.Label.{Label}
-use Rattle.labels.specs.Order.{flows, join, meet}
 use Rattle.model.specs.declared.Kind.the-variants.{Reference}
 use Rattle.model.specs.declared.Value.{Value}
 use Rattle.model.specs.declared.Datum.{Datum}
 use Rattle.model.specs.declared.Datum.the-variants.{Number, Handle}
 use Rattle.model.specs.State.{Program, value, number}
-use Rattle.model.specs.Decoding.{byte, fetch, after}
+use Rattle.model.specs.Decoding.{byte}
 use Rattle.model.specs.Inputs.{kindOf, inputs, handles}
-
-unfoldable pub labelAt : List ℕ → ℕ → Label
-labelAt ws i = record { secrecy = getD ws (2 * i) 0; integrity = getD ws (2 * i + 1) 0 }
+use Rattle.model.specs.Running.{programOf}
+use Rattle.model.specs.Words.{labelIn}
 
 -- how many input records there are in a list of bytes
 abbrev pub count : List ℕ → ℕ
 count rs = length rs / 6
 
 unfoldable pub program : List ℕ → List ℕ → List ℕ → Program
-program code ws rs =
-    record {
-      flows = flows;
-      join = join;
-      meet = meet;
-      fetch = fetch code;
-      after = after code;
-      labels = labelAt ws;
-      inputs = handles 0 (inputs (labelAt ws) rs (count rs) 0);
-    }
+program code ws rs = programOf code (labelIn ws) (inputs (labelIn ws) rs (count rs) 0)
 
 -- what INPUT pushes
 unfoldable pub inputAt : List ℕ → ℕ → Datum
 inputAt rs i = cond (ltb i (count rs)) (Handle (kindOf (byte rs (6 * i))) i) (Number 0)
 
-pub label-out : (ws : List ℕ) (i : ℕ) → length ws ≤ i → record { secrecy = 0; integrity = 0 } ≡ labelAt ws i
-unfolding labelAt
+pub label-out : (ws : List ℕ) (i : ℕ) → length ws ≤ i → record { secrecy = 0; integrity = 0 } ≡ labelIn ws i
+unfolding labelIn
 label-out ws i h =
     let a : length ws ≤ 2 * i = omega arith in
     let b : length ws ≤ 2 * i + 1 = omega arith in
@@ -64,9 +54,9 @@ input-none ls bs zero b p i h = refl
 input-none ls bs (suc n) b p zero h = absurd (omega arith)
 input-none ls bs (suc n) b p (suc i) h = input-none ls bs n (b + 6) (suc p) i (omega arith)
 
-pub other-kind : (n : ℕ) → (n ≡ 0 → ⊥) → kindOf n ≡ Reference
-other-kind zero h = absurd (h refl)
-other-kind (suc n) h = refl
+pub kind-other : (n : ℕ) → n ≢ 0 → Reference ≡ kindOf n
+kind-other zero h = absurd (h refl)
+kind-other (suc n) h = refl
 
 pub input-in : (rs : List ℕ) (i : ℕ) → i < count rs → Handle (kindOf (byte rs (6 * i))) i ≡ inputAt rs i
 unfolding inputAt
@@ -79,8 +69,8 @@ input-out rs i h = rw (le-ltb i (count rs) h)
 pub input-at : (code ws rs : List ℕ) (i : ℕ) → inputAt rs i ≡ getD (program code ws rs .inputs) i (number 0) .datum
 unfolding program
 input-at code ws rs i = test (ltb i (count rs)) refl where
-  test : (b : Bool) → ltb i (count rs) ≡ b → inputAt rs i ≡ getD (handles 0 (inputs (labelAt ws) rs (count rs) 0)) i (number 0) .datum
+  test : (b : Bool) → ltb i (count rs) ≡ b → inputAt rs i ≡ getD (handles 0 (inputs (labelIn ws) rs (count rs) 0)) i (number 0) .datum
   test true e =
-      sym (input-in rs i (ltb-true i (count rs) e)) ∙ ap (λ (v : Value). v .datum) (sym (rw (zero-add (6 * i), zero-add i) at (input-handle (labelAt ws) rs (count rs) 0 0 i (ltb-true i (count rs) e))))
+      sym (input-in rs i (ltb-true i (count rs) e)) ∙ ap (λ (v : Value). v .datum) (sym (rw (zero-add (6 * i), zero-add i) at (input-handle (labelIn ws) rs (count rs) 0 0 i (ltb-true i (count rs) e))))
   test false e =
-      sym (input-out rs i (ltb-false i (count rs) e)) ∙ ap (λ (v : Value). v .datum) (sym (input-none (labelAt ws) rs (count rs) 0 0 i (ltb-false i (count rs) e)))
+      sym (input-out rs i (ltb-false i (count rs) e)) ∙ ap (λ (v : Value). v .datum) (sym (input-none (labelIn ws) rs (count rs) 0 0 i (ltb-false i (count rs) e)))

@@ -8,7 +8,9 @@ ghost use mathlib.Core.Path.{_≡_};
 ghost use Prim.Native.Nat.{_^_, _<_, _≤_, _+_};
 ghost use lib.ListN.{length, getD};
 ghost use Rattle.model.specs.Operands.{truth};
-ghost use Rattle.operands.specs.Program.{labelAt, inputAt};
+ghost use Rattle.model.specs.Inputs.{kindOf};
+ghost use Rattle.model.specs.Words.{labelIn};
+ghost use Rattle.operands.specs.Program.{inputAt};
 ghost use Rattle.operands.specs.Plans.{numbersOf, addOf, subOf, lessOf, sameOf, branchOf, labelsOf, flowsOf, joinOf, meetOf, onNumber, onLabel, onHandle, onSealed, onReference, tryOf, doneOf, operateOf, planOf};
 
 // What is left to be done once the operands are dropped. BLOCK is not among these: it needs a run.
@@ -287,7 +289,7 @@ fn done(frames: usize) -> Plan
 // Label i of the file: words 2i and 2i + 1; past the end stands 0.
 pub fn label_at(labels: &[u64], i: usize) -> Label
     requires { ⌜ length (now labels) < 2 ^ 32 ⌝ }
-    ensures { λ r. ⌜ r ≡ labelAt (now (labels .entry)) i ⌝ }
+    ensures { λ r. ⌜ r ≡ labelIn (now (labels .entry)) i ⌝ }
 {
     if labels.len() <= i {
         return Label {
@@ -310,17 +312,24 @@ fn word_at(s: &[u64], i: usize) -> u64
     0
 }
 
-// The handle of input record i: its kind is the first of its six bytes, its place is i.
+// The kind of an input record, by the first of its six bytes.
+pub fn kind_of(b: u8) -> Kind
+    ensures { λ r. ⌜ r ≡ kindOf b ⌝ }
+{
+    if b == 0 {
+        return Kind::Sealed;
+    }
+    Kind::Reference
+}
+
+// The handle of input record i, whose place is i.
 pub fn input_at(records: &[u8], i: usize) -> Datum
     ensures { λ r. ⌜ r ≡ inputAt (now (records .entry)) i ⌝ }
 {
     if records.len() / 6 <= i {
         return Datum::Number(0);
     }
-    if records[6 * i] == 0 {
-        return Datum::Handle(Kind::Sealed, i);
-    }
-    Datum::Handle(Kind::Reference, i)
+    Datum::Handle(kind_of(records[6 * i]), i)
 }
 
 // ---- the instructions

@@ -3,7 +3,6 @@ use mathlib.Core.Bool.{Bool, true, false}
 use mathlib.Core.List.{List, [], _∷_}
 use mathlib.Core.Path.{_≡_, refl, ap, sym, _∙_}
 use Prim.Native.Nat.{ℕ, suc}
-use native.Mathlib.Omega.{arith}
 use lib.Dec.{eqb·suc-zero}
 use lib.ListN.{length, getD}
 use Rattle.script_file.specs.Sections.{header, fileLabels, orNone}
@@ -13,6 +12,7 @@ use Rattle.script_file.specs.declared.Header.{Header}
 use Rattle.script_file.specs.declared.Refusal.{Refusal}
 use Rattle.script_file.specs.declared.Refusal.the-variants.{Code}
 use Rattle.script_file.specs.declared.Loaded.the-variants.{Refused, File}
+use Rattle.script_file.proofs.Tests.{lowest-each}
 use Rattle.script_file.proofs.Limits.{Counted, counted, Placed, placed}
 
 -- The answer's number is the lowest that applies.
@@ -41,17 +41,6 @@ pub file-header : (bs : List ℕ) (h : Header) → File h ≡ loaded bs → h �
 unfolding loaded
 file-header bs h e = let same : File h ≡ File (header bs) = e ∙ ap (λ (n : ℕ). answer n (header bs)) (file-number bs h e) in cc
 
-all-pass : (a b c d e f g : Bool) → lowest 1 (a ∷ b ∷ c ∷ d ∷ e ∷ f ∷ g ∷ []) ≡ 0
-    → (a ≡ true) × (b ≡ true) × (c ≡ true) × (d ≡ true) × (e ≡ true) × (f ≡ true) × (g ≡ true)
-all-pass true true true true true true true z = (refl, refl, refl, refl, refl, refl, refl)
-all-pass false b c d e f g z = absurd (omega arith)
-all-pass true false c d e f g z = absurd (omega arith)
-all-pass true true false d e f g z = absurd (omega arith)
-all-pass true true true false e f g z = absurd (omega arith)
-all-pass true true true true false f g z = absurd (omega arith)
-all-pass true true true true true false g z = absurd (omega arith)
-all-pass true true true true true true false z = absurd (omega arith)
-
 -- A file that is not refused passes each check.
 pub record Accepted (bs : List ℕ) : Type 0 where
   pub size : passes1 bs ≡ true
@@ -65,8 +54,16 @@ pub record Accepted (bs : List ℕ) : Type 0 where
 pub accepted : (bs : List ℕ) → refusal bs ≡ 0 → Accepted bs
 unfolding refusal
 accepted bs none =
-    let p = all-pass (passes1 bs) (passes2 bs) (passes3 bs) (passes4 bs) (passes5 bs) (passes6 bs) (passes7 bs) none in
-    record { size = p .0; counts = p .1; offsets = p .2; labels = p .3; start = p .4; records = p .5; code = p .6 }
+    let p = lowest-each 0 (passes1 bs ∷ passes2 bs ∷ passes3 bs ∷ passes4 bs ∷ passes5 bs ∷ passes6 bs ∷ passes7 bs ∷ []) none in
+    record {
+      size = p .0;
+      counts = p .1 .0;
+      offsets = p .1 .1 .0;
+      labels = p .1 .1 .1 .0;
+      start = p .1 .1 .1 .1 .0;
+      records = p .1 .1 .1 .1 .1 .0;
+      code = p .1 .1 .1 .1 .1 .1 .0;
+    }
 
 -- So its sections lie within it, and its counts within their limits.
 pub within-limits : (bs : List ℕ) → refusal bs ≡ 0 → Counted (header bs)

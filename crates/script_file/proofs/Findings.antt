@@ -7,15 +7,23 @@ use native.Mathlib.Omega.{arith}
 use lib.ListN.{length, take, drop}
 use borrow.Rule.Slice.PartAt.{part-to-end}
 use Rattle.labels.specs.Order.{flows}
+use Rattle.model.specs.Words.{labelIn}
 use Rattle.script_file.specs.Sections.{header, labelBytes, recordBytes, codeBytes, readLabels, fileLabels, labelAt, orNone}
 use Rattle.script_file.specs.Sweep.{codeOk}
 use Rattle.script_file.specs.Checks.{sizeOk, countsOk, offsetsOk, recordsOk, passes1, passes2, passes3, passes4, passes5, passes6, passes7, refusal}
 use Rattle.script_file.specs.Loading.{labelWords}
-use Rattle.script_file.specs.Parts.{tableOf, labelIn}
+use Rattle.script_file.specs.Parts.{tableOf}
 use Rattle.script_file.specs.declared.Header.{Header}
 use Rattle.script_file.specs.declared.Table.{Table}
 use Rattle.script_file.proofs.Labels.{words-hold, words-hold-any, labels-few}
 use Rattle.script_file.proofs.Answers.{within-limits}
+
+-- the parts that the code takes of a file, where the header says
+abbrev pub recordsIn : Header → List ℕ → List ℕ
+recordsIn h bs = take (h .code .offset - h .records .offset) (drop (h .records .offset) bs)
+
+abbrev pub codeIn : Header → List ℕ → List ℕ
+codeIn h bs = take (length bs - h .code .offset) (drop (h .code .offset) bs)
 
 module _ (bs : List ℕ) where
   pub finds1 : (b : Bool) → sizeOk (length bs) ≡ b → passes1 bs ≡ b
@@ -35,21 +43,26 @@ module _ (bs : List ℕ) where
     unfolding fileLabels labelBytes
     file-table t e = e ∙ ap (λ (g : Header). tableOf (readLabels (g .labels .count) (take (g .records .offset - 16) (drop 16 bs)))) is
 
-    pub finds6 : (b : Bool) → h .code .offset ≡ h .records .offset + 6 * h .records .count
-        → recordsOk (h .labels .count) (take (h .code .offset - h .records .offset) (drop (h .records .offset) bs)) (h .records .count) 0 ≡ b → passes6 bs ≡ b
-    unfolding passes6 recordBytes
-    finds6 b e r =
+    pub records-in : h .code .offset ≡ h .records .offset + 6 * h .records .count → recordsIn h bs ≡ recordBytes bs
+    unfolding recordBytes
+    records-in e =
         let count : h .code .offset - h .records .offset ≡ 6 * h .records .count = omega arith in
-        ap (λ (g : Header). recordsOk (g .labels .count) (take (6 * g .records .count) (drop (g .records .offset) bs)) (g .records .count) 0) (sym is)
-        ∙ ap (λ (n : ℕ). recordsOk (h .labels .count) (take n (drop (h .records .offset) bs)) (h .records .count) 0) (sym count)
-        ∙ r
+        ap (λ (n : ℕ). take n (drop (h .records .offset) bs)) count
+        ∙ ap (λ (g : Header). take (6 * g .records .count) (drop (g .records .offset) bs)) is
 
-    pub finds7 : (b : Bool) → codeOk (h .labels .count) (h .records .count) (take (length bs - h .code .offset) (drop (h .code .offset) bs)) ≡ b → passes7 bs ≡ b
-    unfolding passes7 codeBytes
-    finds7 b r =
-        ap (λ (g : Header). codeOk (g .labels .count) (g .records .count) (drop (g .code .offset) bs)) (sym is)
-        ∙ ap (codeOk (h .labels .count) (h .records .count)) (sym (part-to-end bs (h .code .offset)))
-        ∙ r
+    pub code-in : codeIn h bs ≡ codeBytes bs
+    unfolding codeBytes
+    code-in = part-to-end bs (h .code .offset) ∙ ap (λ (g : Header). drop (g .code .offset) bs) is
+
+    pub finds6 : (b : Bool) → h .code .offset ≡ h .records .offset + 6 * h .records .count
+        → recordsOk (h .labels .count) (recordsIn h bs) (h .records .count) 0 ≡ b → passes6 bs ≡ b
+    unfolding passes6
+    finds6 b e r =
+        ap₂ (λ (g : Header) (rs : List ℕ). recordsOk (g .labels .count) rs (g .records .count) 0) (sym is) (sym (records-in e)) ∙ r
+
+    pub finds7 : (b : Bool) → codeOk (h .labels .count) (h .records .count) (codeIn h bs) ≡ b → passes7 bs ≡ b
+    unfolding passes7
+    finds7 b r = ap₂ (λ (g : Header) (code : List ℕ). codeOk (g .labels .count) (g .records .count) code) (sym is) (sym code-in) ∙ r
 
   module _ (t : Table) (is : t ≡ tableOf (fileLabels bs)) where
     pub finds4 : (b : Bool) → t .whole ≡ b → passes4 bs ≡ b

@@ -1,33 +1,22 @@
 -- The label section, one entry at a time, and the words that it fills.
-use mathlib.Core.Bool.{Bool, true, false, cond}
+use mathlib.Core.Bool.{Bool, true, false}
 use mathlib.Core.List.{List, [], _∷_, _++_, append-assoc, append-nil}
 use mathlib.Core.Option.{Option, none, some}
-use mathlib.Core.Path.{_≡_, refl, sym, ap, ap₂, subst, _∙_}
+use mathlib.Core.Path.{_≡_, refl, sym, ap, ap₂, _∙_}
 use Prim.Native.Nat.{ℕ, zero, suc, _+_, _*_, _≤_, _<_}
 use native.Mathlib.Omega.{arith}
-use lib.Dec.{T, ltb}
+use lib.Dec.{ltb}
 use borrow.Author.Tests.{ltb-true, ltb-false}
 use lib.ListN.{length, getD, set, drop, length-append, List·getD-eq-default}
-use Rattle.labels.specs.Entry.{wellFormed, readEntry, entryLength}
+use Rattle.labels.specs.Entry.{readEntry}
 use Rattle.labels.specs.declared.Label.{Label}
 use Rattle.labels.specs.declared.Entry.{Entry}
 use Rattle.labels.specs.declared.Entry.the-variants.{Read, Malformed}
-use Rattle.labels.proofs.Reading.{well-formed, found}
+use Rattle.model.specs.Words.{labelIn}
 use Rattle.script_file.specs.Sections.{consLabel, labelsAfter, readLabels, orNone}
 use Rattle.script_file.specs.Loading.{tables, padded, labelWords}
-use Rattle.script_file.specs.Parts.{tableOf, labelIn}
+use Rattle.script_file.specs.Parts.{tableOf}
 use Rattle.script_file.specs.declared.Table.{Table}
-
--- an entry that is read lies within the bytes
-pub entry-within : (xs : List ℕ) (l : Label) (k : ℕ) → readEntry xs ≡ Read l k → k ≤ length xs
-unfolding readEntry
-entry-within xs l k e = go (wellFormed xs) refl e where
-  go : (b : Bool) → wellFormed xs ≡ b → cond b (found xs) Malformed ≡ Read l k → k ≤ length xs
-  go true w r =
-      let same : entryLength xs ≡ k = cc in
-      let whole = well-formed xs (subst (λ (b : Bool). T b) (sym w) tt) .whole in
-      omega arith
-  go false w r = let z : _≡_ {A = ℕ} 0 1 = cc in absurd (omega arith)
 
 -- ── filling the words ──
 
@@ -95,6 +84,7 @@ abbrev pub noLabel : Label
 noLabel = record { secrecy = 0; integrity = 0 }
 
 tables-at : (ls : List Label) (i : ℕ) → labelIn (tables ls) i ≡ getD ls i noLabel
+unfolding labelIn
 tables-at [] i = refl
 tables-at (l ∷ ls) zero = refl
 tables-at (l ∷ ls) (suc i) =
@@ -111,7 +101,7 @@ padded-at (suc n) (x ∷ xs) (suc k) h = padded-at n xs k (omega arith)
 
 -- label i of a file stands at words 2 i and 2 i + 1
 pub words-hold : (ls : List Label) (i : ℕ) → i < 32 → labelIn (labelWords ls) i ≡ getD ls i noLabel
-unfolding labelWords
+unfolding labelIn labelWords
 words-hold ls i h =
     ap₂ (λ (a b : ℕ). record { secrecy = a; integrity = b }) (padded-at 64 (tables ls) (2 * i) (omega arith)) (padded-at 64 (tables ls) (2 * i + 1) (omega arith))
     ∙ tables-at ls i
@@ -132,7 +122,7 @@ labels-few zero [] = omega arith
 labels-few zero (b ∷ bs) = omega arith
 labels-few (suc n) bs = after-few n (λ k. readLabels n (drop k bs)) (λ k. labels-few n (drop k bs)) (readEntry bs)
 
-length-padded : (n : ℕ) (xs : List ℕ) → length (padded n xs) ≡ n
+pub length-padded : (n : ℕ) (xs : List ℕ) → length (padded n xs) ≡ n
 length-padded zero xs = refl
 length-padded (suc n) [] = ap suc (length-padded n [])
 length-padded (suc n) (x ∷ xs) = ap suc (length-padded n xs)
@@ -142,7 +132,7 @@ past-padded n xs k h = List·getD-eq-default (padded n xs) 0 {n = k} (rw (length
 
 -- Where there are at most 32 labels the words hold each, and ⟨False, False⟩ at any index past them.
 pub words-hold-any : (ls : List Label) → length ls ≤ 32 → (i : ℕ) → labelIn (labelWords ls) i ≡ getD ls i noLabel
-unfolding labelWords
+unfolding labelIn labelWords
 words-hold-any ls few i = by (ltb i 32) refl where
   by : (b : Bool) → ltb i 32 ≡ b → labelIn (padded 64 (tables ls)) i ≡ getD ls i noLabel
   by true e = words-hold ls i (ltb-true i 32 e)

@@ -1,36 +1,32 @@
 -- What a header that passes checks 2 and 3 says of its numbers.
-use mathlib.Core.Bool.{Bool, true, false}
-use mathlib.Core.List.{List, _∷_}
-use mathlib.Core.Path.{_≡_, refl}
+use mathlib.Core.Bool.{true}
+use mathlib.Core.Path.{_≡_}
 use Prim.Native.Nat.{ℕ, _+_, _*_, _≤_}
-use native.Mathlib.Omega.{arith}
 use borrow.Author.Tests.{leb-true, eqb-true}
-use Rattle.script_file.specs.Checks.{every, countsOk, offsetsOk}
+use Rattle.script_file.specs.Checks.{countsOk, offsetsOk}
 use Rattle.script_file.specs.declared.Header.{Header}
-
-head-holds : (t : Bool) (ts : List Bool) → every (t ∷ ts) ≡ true → t ≡ true
-unfolding every
-head-holds true ts e = refl
-head-holds false ts e = e
-
-rest-holds : (t : Bool) (ts : List Bool) → every (t ∷ ts) ≡ true → every ts ≡ true
-unfolding every
-rest-holds true ts e = e
-rest-holds false ts e = let z : _≡_ {A = ℕ} 0 1 = cc in absurd (omega arith)
+use Rattle.script_file.proofs.Tests.{every-each}
 
 pub record Counted (h : Header) : Type 0 where
   pub labels : h .labels .count ≤ 32
   pub records : h .records .count ≤ 64
+  pub some-code : 1 ≤ h .code .count
   pub code : h .code .count ≤ 4096
+  pub inputs-fit : h .records .count ≤ h .places
+  pub places : h .places ≤ 256
 
 pub counted : (h : Header) → countsOk h ≡ true → Counted h
 unfolding countsOk
 counted h e =
-    let e₁ = rest-holds _ _ e in
-    let e₂ = rest-holds _ _ e₁ in
-    let e₃ = rest-holds _ _ e₂ in
-    let e₄ = rest-holds _ _ e₃ in
-    record { labels = leb-true _ _ (head-holds _ _ e₁); records = leb-true _ _ (head-holds _ _ e₂); code = leb-true _ _ (head-holds _ _ e₄) }
+    let p = every-each _ e in
+    record {
+      labels = leb-true _ _ (p .1 .0);
+      records = leb-true _ _ (p .1 .1 .0);
+      some-code = leb-true _ _ (p .1 .1 .1 .0);
+      code = leb-true _ _ (p .1 .1 .1 .1 .0);
+      inputs-fit = leb-true _ _ (p .1 .1 .1 .1 .1 .1 .0);
+      places = leb-true _ _ (p .1 .1 .1 .1 .1 .1 .1 .0);
+    }
 
 pub record Placed (h : Header) (n : ℕ) : Type 0 where
   pub records : 16 ≤ h .records .offset
@@ -40,7 +36,5 @@ pub record Placed (h : Header) (n : ℕ) : Type 0 where
 pub placed : (h : Header) (n : ℕ) → offsetsOk h n ≡ true → Placed h n
 unfolding offsetsOk
 placed h n e =
-    let e₁ = rest-holds _ _ e in
-    let e₂ = rest-holds _ _ e₁ in
-    let e₃ = rest-holds _ _ e₂ in
-    record { records = leb-true _ _ (head-holds _ _ e₁); code = eqb-true _ _ (head-holds _ _ e₂); whole = eqb-true _ _ (head-holds _ _ e₃) }
+    let p = every-each _ e in
+    record { records = leb-true _ _ (p .1 .0); code = eqb-true _ _ (p .1 .1 .0); whole = eqb-true _ _ (p .1 .1 .1 .0) }

@@ -1,5 +1,5 @@
 -- The sweep, one instruction at a time, and the marks that it leaves.
-use mathlib.Core.Bool.{Bool, true, false, cond, _&&_, _||_}
+use mathlib.Core.Bool.{Bool, true, false, cond, _&&_, _||_, or-false, or-assoc, or-comm}
 use mathlib.Core.List.{List, [], _∷_}
 use mathlib.Core.Path.{_≡_, refl, sym, ap, _∙_}
 use Prim.Native.Nat.{ℕ, zero, suc, _+_, _≤_, _<_}
@@ -9,9 +9,9 @@ use lib.ListN.{length, getD, set, replicate, length-set}
 use lib.Seq.{getD-set-same, getD-set-other}
 use borrow.Author.Tests.{ltb-true, eqb-true, eqb-false, lt-ltb, le-ltb, le-leb, lt-leb}
 use Rattle.model.specs.Decoding.{byte, known, size, fetch, after}
+use Rattle.model.proofs.Places.{blank}
 use Rattle.script_file.specs.Sweep.{sweep, starts, among, all, operandsOk, instrOk}
 use Rattle.script_file.specs.Parts.{mark, Marks}
-use Rattle.script_file.proofs.Tests.{or-false, or-move}
 
 -- the starts from place i on
 abbrev pub from : List ℕ → ℕ → List ℕ
@@ -22,26 +22,29 @@ unfolding size
 size-some op = omega arith
 
 module _ (code : List ℕ) where
-  past : (f i : ℕ) → length code ≤ i → sweep f code i ≡ []
+  pub sweep-past : (f i : ℕ) → length code ≤ i → sweep f code i ≡ []
   unfolding sweep
-  past zero i h = refl
-  past (suc f) i h = rw (le-ltb i (length code) h)
+  sweep-past zero i h = refl
+  sweep-past (suc f) i h = rw (le-ltb i (length code) h)
+
+  pub sweep-here : (f i : ℕ) → i < length code → sweep (suc f) code i ≡ i ∷ sweep f code (i + size (byte code i))
+  unfolding sweep
+  sweep-here f i h = rw (lt-ltb i (length code) h)
 
   -- more turns than there are places make no difference
   enough : (f g i : ℕ) → length code ≤ i + f → length code ≤ i + g → sweep f code i ≡ sweep g code i
   unfolding sweep
-  enough zero g i p q = sym (past g i (omega arith))
-  enough (suc f) zero i p q = past (suc f) i (omega arith)
+  enough zero g i p q = sym (sweep-past g i (omega arith))
+  enough (suc f) zero i p q = sweep-past (suc f) i (omega arith)
   enough (suc f) (suc g) i p q =
       ap (λ (r : List ℕ). cond (ltb i (length code)) (i ∷ r) [])
       (enough f g (i + size (byte code i)) (omega (arith, size-some (byte code i))) (omega (arith, size-some (byte code i))))
 
   pub from-end : (i : ℕ) → length code ≤ i → from code i ≡ []
-  from-end i h = past (length code) i h
+  from-end i h = sweep-past (length code) i h
 
   pub from-step : (i : ℕ) → i < length code → from code i ≡ i ∷ from code (i + size (byte code i))
-  unfolding sweep
-  from-step i h = enough (length code) (suc (length code)) i (omega arith) (omega arith) ∙ rw (lt-ltb i (length code) h)
+  from-step i h = enough (length code) (suc (length code)) i (omega arith) (omega arith) ∙ sweep-here (length code) i h
 
   pub after-step : (i : ℕ) → i < length code → after code i ≡ i + size (byte code i)
   unfolding after
@@ -55,11 +58,6 @@ set-mark ms i t h = go (eqb t i) refl where
   go true e = rw (eqb-true t i e) (getD-set-same ms i true false h)
   go false e = getD-set-other ms i t true false (eqb-false t i e)
 
-none-marked : (n t : ℕ) → getD (replicate n false) t false ≡ false
-none-marked zero t = refl
-none-marked (suc n) zero = refl
-none-marked (suc n) (suc t) = none-marked n t
-
 module _ (code : List ℕ) (t : ℕ) where
   marked : (f i : ℕ) (ms : List Bool) → length code ≤ length ms → getD (mark (sweep f code i) ms) t false ≡ (among t (sweep f code i) || getD ms t false)
   unfolding sweep
@@ -70,14 +68,16 @@ module _ (code : List ℕ) (t : ℕ) where
         → getD (mark (cond b (i ∷ sweep f code (i + size (byte code i))) []) ms) t false ≡ (among t (cond b (i ∷ sweep f code (i + size (byte code i))) []) || getD ms t false)
     go true e r =
         let inside : i < length ms = omega (arith, ltb-true i (length code) e) in
-        r ∙ ap (λ (x : Bool). among t (sweep f code (i + size (byte code i))) || x) (set-mark ms i t inside) ∙ or-move (among t (sweep f code (i + size (byte code i)))) (eqb t i) (getD ms t false)
+        let later = among t (sweep f code (i + size (byte code i))) in
+        r ∙ ap (λ (x : Bool). later || x) (set-mark ms i t inside)
+        ∙ sym (or-assoc later (eqb t i) (getD ms t false)) ∙ ap (λ (x : Bool). x || getD ms t false) (or-comm later (eqb t i))
     go false e r = refl
 
 pub starts-marked : (code : List ℕ) (n : ℕ) → length code ≤ length (replicate n false) → Marks (mark (starts code) (replicate n false)) (starts code)
 unfolding starts
 starts-marked code n h =
     record {
-      at = λ t. marked code t (length code) 0 (replicate n false) h ∙ ap (λ (x : Bool). among t (from code 0) || x) (none-marked n t) ∙ or-false (among t (from code 0));
+      at = λ t. marked code t (length code) 0 (replicate n false) h ∙ ap (λ (x : Bool). among t (from code 0) || x) (blank n t false) ∙ or-false (among t (from code 0));
     }
 
 -- ── the instructions ──

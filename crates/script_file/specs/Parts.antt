@@ -3,7 +3,7 @@ use mathlib.Core.Bool.{Bool, true, false}
 use mathlib.Core.List.{List, [], _∷_}
 use mathlib.Core.Option.{Option}
 use mathlib.Core.Path.{_≡_}
-use Prim.Native.Nat.{ℕ, _+_, _*_, _<_, _^_}
+use Prim.Native.Nat.{ℕ, _<_, _^_}
 use lib.ListN.{getD, set}
 use Rattle.labels.specs.declared.Label.{Label}
 use Rattle.model.specs.declared.Instr.{Instr}
@@ -27,9 +27,6 @@ pub record Shorts (h : Header) : Type 0 where
 -- the labels that a section gives, none where it is malformed
 abbrev pub tableOf : Option (List Label) → Table
 tableOf o = record { whole = present o; words = labelWords (orNone o) }
-
-abbrev pub labelIn : List ℕ → ℕ → Label
-labelIn ws i = record { secrecy = getD ws (2 * i) 0; integrity = getD ws (2 * i + 1) 0 }
 
 -- the marks set at each start
 abbrev pub mark : List ℕ → List Bool → List Bool

@@ -10,7 +10,8 @@ ghost use Rattle.script_file.specs.Sections.{section, header, readLabels
 ghost use Rattle.script_file.specs.Sweep.{starts, all, lastOf, instrOk, mayBeLast, codeOk};
 ghost use Rattle.script_file.specs.Checks.{sizeOk, countsOk, offsetsOk, recordsOk};
 ghost use Rattle.script_file.specs.Loading.{number, loaded, wordsAfter};
-ghost use Rattle.script_file.specs.Parts.{Short, Shorts, tableOf, labelIn, mark, Marks, OperandsIn};
+ghost use Rattle.model.specs.Words.{labelIn};
+ghost use Rattle.script_file.specs.Parts.{Short, Shorts, tableOf, mark, Marks, OperandsIn};
 use labels::Entry;
 use labels::Label;
 use model::Instr;

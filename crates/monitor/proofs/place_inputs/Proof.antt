@@ -7,7 +7,7 @@ use Rattle.store.specs.Slots.{slots}
 use Rattle.monitor.specs.Placing.{place-start, place-one, place-end}
 use Prim.Native.Nat.{_-_}
 use native.Mathlib.Omega.{arith}
-use Rattle.operands.specs.Program.{labelAt as labelIn}
+use Rattle.model.specs.Words.{labelIn}
 use Rattle.monitor.specs.Placing.{Placing}
 use Rattle.monitor.proofs.place_inputs.Statement.{statement}
 use Rattle.monitor.proofs.place_inputs.Tie as tie

@@ -1,4 +1,5 @@
-use Rattle.operands.specs.Program.{labelAt, label-out}
+use Rattle.model.specs.Words.{labelIn}
+use Rattle.operands.specs.Program.{label-out}
 use borrow.Author.Needs.{needs}
 use Rattle.operands.proofs.label_at.Statement.{statement}
 use Rattle.operands.proofs.label_at.Tie as tie
@@ -24,7 +25,7 @@ word-at-requires-2 : tie.Need-word-at-requires-2
 word-at-requires-2 c κs = search needs
 
 returns-2 : tie.Need-returns-2
-unfolding labelAt
+unfolding labelIn
 returns-2 c = rw (c .word-at2 .ensures, c .before .word-at .ensures)
 
 pub label-at-spec : {M : Type 1} → statement M

@@ -11,7 +11,8 @@ use Rattle.labels.specs.declared.Entry.the-variants.{Read, Malformed}
 use Rattle.script_file.specs.Sections.{readLabels}
 use Rattle.script_file.specs.Loading.{labelWords}
 use Rattle.script_file.specs.Parts.{tableOf}
-use Rattle.script_file.proofs.Labels.{entry-within, putLabel, tableFrom, table-start, entry-read, entry-malformed, labels-end, bytes-left}
+use Rattle.labels.proofs.RoundTrip.{read-within}
+use Rattle.script_file.proofs.Labels.{putLabel, tableFrom, table-start, entry-read, entry-malformed, labels-end, bytes-left}
 use borrow.Author.Needs.{needs}
 use Rattle.script_file.proofs.read_labels.Statement.{statement}
 use Rattle.script_file.proofs.read_labels.Tie as tie
@@ -90,7 +91,7 @@ add-at c = let bs = c .before .before .before .before .before .before .before .b
     let at = c .before .before .before .before .before .before .loop .at in
     let ws = c .before .before .before .before .before .before .loop .words in
     let entry : readEntry (drop at bs) ≡ Read (c .before .l .given .0 .0) (c .before .l .given .0 .1 .0) = ap readEntry (sym (part-to-end bs at)) ∙ sym (c .before .before .before .read-entry .ensures) ∙ c .before .l .given .1 in
-    let within = entry-within (drop at bs) (c .before .l .given .0 .0) (c .before .l .given .0 .1 .0) entry in
+    let within = read-within (drop at bs) (c .before .l .given .0 .0) (c .before .l .given .0 .1 .0) entry .1 in
     omega (arith, length-drop at bs)
 
 add-i : tie.Need-add-i Inv-loop μ-loop
@@ -107,7 +108,7 @@ loop-again c = let bs = c .before .before .before .before .before .before .befor
     let ws = c .before .before .before .before .before .before .loop .words in
     let left : n - i ≡ suc (n - (i + 1)) = omega arith in
     let entry : readEntry (drop at bs) ≡ Read (c .before .l .given .0 .0) (c .before .l .given .0 .1 .0) = ap readEntry (sym (part-to-end bs at)) ∙ sym (c .before .before .before .read-entry .ensures) ∙ c .before .l .given .1 in
-    let within = entry-within (drop at bs) (c .before .l .given .0 .0) (c .before .l .given .0 .1 .0) entry in (
+    let within = read-within (drop at bs) (c .before .l .given .0 .0) (c .before .l .given .0 .1 .0) entry .1 in (
       omega arith,
       omega (arith, length-drop at bs),
       c .before .before .before .before .before .before .loop .inv .2 ∙ ap (λ (k : ℕ). tableFrom i ws (readLabels k (drop at bs))) left ∙ entry-read i ws (n - (i + 1)) (drop at bs) (c .before .l .given .0 .0) (c .before .l .given .0 .1 .0) entry

@@ -1,8 +1,8 @@
--- `monitor::kind_of` meets its contract.
-use Rattle.monitor.specs.Placing.{kind-other}
+-- `operands::kind_of` meets its contract.
+use Rattle.operands.specs.Program.{kind-other}
 use borrow.Author.Needs.{needs}
-use Rattle.monitor.proofs.kind_of.Statement.{statement}
-use Rattle.monitor.proofs.kind_of.Tie as tie
+use Rattle.operands.proofs.kind_of.Statement.{statement}
+use Rattle.operands.proofs.kind_of.Tie as tie
 
 returns : tie.Need-returns
 returns c = search needs
