@@ -17,7 +17,7 @@ use Rattle.script_file.specs.Program.{fileInputs, fileProgram, fileAccount, fil
 use Rattle.labels.specs.Cases.{allHold}
 use Rattle.view.specs.Layout.{littleEndian, labelField, datumField, contentsField, endingNumber, resultField, kindByte, recordField, shown, slotField, recordFields, recordsShown, counts, final, viewLength, view}
 use Rattle.view.specs.Reading.{fileView}
-use Rattle.view.specs.Lines.{hex, frontFields, recordFieldWidths, widths, spaced, line, lines, refusedLine, printed}
+use Rattle.lines.specs.Lines.{hex, frontFields, recordFieldWidths, widths, spaced, line, lines, refusedLine, printed}
 use Rattle.cases.specs.Table.{table as cases}
 use Rattle.cases.specs.Example.{example, exampleLine}
 

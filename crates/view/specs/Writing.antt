@@ -1,9 +1,8 @@
 -- What the writers of a view put into a buffer, and the outcome that they write of.
-use mathlib.Core.Path.{_≡_}
 use mathlib.Core.Bool.{Bool}
 use mathlib.Core.List.{List, _++_}
-use Prim.Native.Nat.{ℕ, _≤_}
-use lib.ListN.{length, take, drop}
+use Prim.Native.Nat.{ℕ}
+use lib.ListN.{length, drop}
 use Rattle.labels.specs.Order.{flows}
 use Rattle.labels.specs.declared.Label.{Label}
 use Rattle.model.specs.State.{Account, Store, Outcome}
@@ -23,10 +22,3 @@ closing f = record { label = f .label; clearance = f .clearance; steps = f .step
 
 abbrev pub finished : Finish → Store → Outcome
 finished f σ = record { ending = f .ending; account = closing f; store = σ }
-
--- n is how many of the first w bytes there are
-pub record Cut (w : ℕ) (bytes : List ℕ) (n : ℕ) : Type 0 where
-  pub within : n ≤ length bytes
-  pub few : n ≤ w
-  pub taken : take n bytes ≡ take w bytes
-  pub dropped : drop n bytes ≡ drop w bytes

@@ -1,5 +1,5 @@
 // The view: what a reading label, the observer, is shown of a run that has ended, written into a buffer that the caller
-// lends; and the line that is printed of it.
+// lends.
 use labels::Label;
 use model::Contents;
 use model::Datum;
@@ -13,9 +13,7 @@ ghost use Prim.Native.Nat.{_+_, _-_, _*_, _≤_, _<_};
 ghost use lib.ListN.{length, replicate};
 ghost use Rattle.store.specs.Slots.{words, slots};
 ghost use Rattle.view.specs.Layout.{labelWidth, valueWidth, recordWidth, littleEndian, labelField, valueField, datumField, contentsField, endingNumber, resultField, kindByte, recordField, recordFields, recordsShown, counts, final, viewLength, view};
-ghost use Rattle.view.specs.Lines.{hexDigit, hex, spaced, widths, line, refusedLine};
-ghost use Rattle.view.specs.Writing.{over, reads, closing, finished, Cut};
-ghost use Rattle.model.specs.Decoding.{u16};
+ghost use Rattle.view.specs.Writing.{over, reads, closing, finished};
 
 // What a run leaves for its view, beside the store: how it ended, its last label and clearance, the steps that it
 // had left, and the next place.
@@ -30,7 +28,7 @@ pub struct Finish {
 // ---- the widths and offsets of a view, in bytes
 
 // A 16-bit number, a word, a label, and a value.
-const NUMBER: usize = 2;
+pub const NUMBER: usize = 2;
 
 const WORD: usize = 8;
 
@@ -48,7 +46,7 @@ const USED: usize = NUMBER;
 
 const NEXT: usize = 2 * NUMBER;
 
-const SHOWN: usize = 3 * NUMBER;
+pub const SHOWN: usize = 3 * NUMBER;
 
 const START: usize = 4 * NUMBER;
 
@@ -56,7 +54,7 @@ const LENGTH: usize = 5 * NUMBER;
 
 const RESULT: usize = 6 * NUMBER;
 
-const RECORDS: usize = RESULT + FINAL;
+pub const RECORDS: usize = RESULT + FINAL;
 
 // Of what stands at RESULT: the label, the clearance, and the width of all three.
 const FINAL_LABEL: usize = VALUE;
@@ -70,7 +68,7 @@ const RECORD_LABEL: usize = 2;
 
 const RECORD_VALUE: usize = RECORD_LABEL + LABEL;
 
-const RECORD: usize = RECORD_VALUE + VALUE;
+pub const RECORD: usize = RECORD_VALUE + VALUE;
 
 // How many places the store has.
 const PLACES: usize = 256;
@@ -102,7 +100,7 @@ fn write_zeros(count: usize, out: &mut [u8])
     }
 }
 
-fn write_pair(a: u8, b: u8, out: &mut [u8])
+pub fn write_pair(a: u8, b: u8, out: &mut [u8])
     requires { ⌜ 2 ≤ length (now out) ⌝ }
     ensures { λ _. ⌜ now (out .exit) ≡ over (a ∷ b ∷ []) (now (out .entry)) ⌝ }
 {
@@ -321,152 +319,4 @@ pub fn write_view(reader: Label, steps: usize, finish: Finish, store: &[u64], ou
     write_number((RECORDS + RECORD * n) as u64, NUMBER, &mut out[LENGTH..]);
     write_final(reader, finish, &mut out[RESULT..]);
     write_records(reader, store, &mut out[RECORDS..]);
-}
-
-// ---- the printed line
-
-// The widths of a line's fields: of those before the records, and of a record's.
-const FRONT: [usize; 13] = [2, 2, 2, 2, 2, 2, 2, 8, 8, 8, 8, 8, 8];
-
-const FIELDS: [usize; 7] = [1, 1, 8, 8, 2, 8, 8];
-
-// The 16-bit number at byte `i`; a byte that isn't there counts as 0.
-fn number_at(bytes: &[u8], i: usize) -> usize
-    requires { ⌜ i < 65536 ⌝ }
-    ensures { λ r. ⌜ (r < 65536) × (r ≡ u16 (now (bytes .entry)) i) ⌝ }
-{
-    if bytes.len() <= i {
-        return 0;
-    }
-    let low = bytes[i] as usize;
-    if bytes.len() <= i + 1 {
-        return low;
-    }
-    low + 256 * (bytes[i + 1] as usize)
-}
-
-// How many of `width` bytes there are.
-fn cut(width: usize, bytes: &[u8]) -> usize
-    ensures { λ r. ⌜ Cut width (now (bytes .entry)) r ⌝ }
-{
-    if width <= bytes.len() {
-        return width;
-    }
-    bytes.len()
-}
-
-fn hex_digit(d: u8) -> u8
-    requires { ⌜ d < 16 ⌝ }
-    ensures { λ r. ⌜ r ≡ hexDigit d ⌝ }
-{
-    if d < 10 {
-        return b'0' + d;
-    }
-    b'a' + (d - 10)
-}
-
-// Writes two digits for each byte.
-fn write_hex(bytes: &[u8], out: &mut [u8])
-    requires { ⌜ 2 * length (now bytes) ≤ length (now out) ⌝ }
-    ensures { λ _. ⌜ now (out .exit) ≡ over (hex (now (bytes .entry))) (now (out .entry)) ⌝ }
-{
-    let mut at = 0;
-    let mut i = 0;
-    while i < bytes.len() {
-        let b = bytes[i];
-        write_pair(hex_digit(b / 16), hex_digit(b % 16), &mut out[at..]);
-        at += 2;
-        i += 1;
-    }
-}
-
-// A space and a field.
-fn write_field(field: &[u8], out: &mut [u8])
-    requires { ⌜ 1 + 2 * length (now field) ≤ length (now out) ⌝ }
-    ensures { λ _. ⌜ now (out .exit) ≡ over (0x20 ∷ hex (now (field .entry))) (now (out .entry)) ⌝ }
-{
-    out[0] = b' ';
-    write_hex(field, &mut out[1..]);
-}
-
-// Writes the fields of these widths, and gives how many bytes that is.
-fn write_fields(widths: &[usize], bytes: &[u8], out: &mut [u8]) -> usize
-    requires { ⌜ length (spaced (now widths) (now bytes)) ≤ length (now out) ⌝ }
-    ensures { λ r. ⌜ (r ≡ length (spaced (now (widths .entry)) (now (bytes .entry)))) × (now (out .exit) ≡ over (spaced (now (widths .entry)) (now (bytes .entry))) (now (out .entry))) ⌝ }
-{
-    let mut rest = bytes;
-    let mut at = 0;
-    let mut j = 0;
-    while j < widths.len() {
-        let n = cut(widths[j], rest);
-        write_field(&rest[..n], &mut out[at..]);
-        at += 1 + 2 * n;
-        rest = &rest[n..];
-        j += 1;
-    }
-    at
-}
-
-// Writes the fields of `count` records, and gives how many bytes that is.
-fn write_record_fields(count: usize, bytes: &[u8], out: &mut [u8]) -> usize
-    requires { ⌜ length (spaced (widths count) (now bytes)) ≤ length (now out) ⌝ }
-    ensures { λ r. ⌜ (r ≡ length (spaced (widths count) (now (bytes .entry)))) × (now (out .exit) ≡ over (spaced (widths count) (now (bytes .entry))) (now (out .entry))) ⌝ }
-{
-    let fields = FIELDS;
-    let mut rest = bytes;
-    let mut at = 0;
-    let mut i = 0;
-    while i < count {
-        at += write_fields(&fields, rest, &mut out[at..]);
-        let n = cut(RECORD, rest);
-        rest = &rest[n..];
-        i += 1;
-    }
-    at
-}
-
-// How many bytes the line of a view has.
-pub fn line_length(view: &[u8]) -> usize
-    ensures { λ r. ⌜ r ≡ length (line (now (view .entry))) ⌝ }
-{
-    let n = number_at(view, SHOWN);
-    13 + 7 * n + 2 * cut(RECORDS + RECORD * n, view)
-}
-
-// Writes the line of a view, and gives how many bytes that is.
-pub fn write_line(view: &[u8], out: &mut [u8]) -> usize
-    requires { ⌜ length (line (now view)) ≤ length (now out) ⌝ }
-    ensures { λ r. ⌜ (r ≡ length (line (now (view .entry)))) × (now (out .exit) ≡ over (line (now (view .entry))) (now (out .entry))) ⌝ }
-{
-    let front = FRONT;
-    let first = cut(NUMBER, view);
-    let records = cut(RECORDS, view);
-    let n = number_at(view, SHOWN);
-    write_hex(&view[..first], out);
-    let middle = 2 * first;
-    let last = middle + write_fields(&front[1..], &view[first..], &mut out[middle..]);
-    let end = last + write_record_fields(n, &view[records..], &mut out[last..]);
-    out[end] = b'\n';
-    end + 1
-}
-
-fn write_bytes(bytes: &[u8], out: &mut [u8])
-    requires { ⌜ length (now bytes) ≤ length (now out) ⌝ }
-    ensures { λ _. ⌜ now (out .exit) ≡ over (now (bytes .entry)) (now (out .entry)) ⌝ }
-{
-    let mut i = 0;
-    while i < bytes.len() {
-        out[i] = bytes[i];
-        i += 1;
-    }
-}
-
-// Writes the line of a file that is refused with the number `n`: 10 bytes.
-pub fn write_refused(n: u8, out: &mut [u8])
-    requires { ⌜ (n < 10) × (10 ≤ length (now out)) ⌝ }
-    ensures { λ _. ⌜ now (out .exit) ≡ over (refusedLine n) (now (out .entry)) ⌝ }
-{
-    let text = [b'r', b'e', b'f', b'u', b's', b'e', b'd', b' '];
-    write_bytes(&text, out);
-    write_pair(b'0' + n, b'\n', &mut out[8..]);
 }

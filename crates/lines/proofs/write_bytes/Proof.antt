@@ -1,4 +1,4 @@
--- `view::write_bytes` meets its contract. Assumes nothing.
+-- `lines::write_bytes` meets its contract. Assumes nothing.
 use mathlib.Core.Path.{refl, sym, ap, _∙_}
 use mathlib.Core.List.{_∷_}
 use native.Mathlib.Omega.{arith}
@@ -6,10 +6,10 @@ use Prim.Native.Nat.{ℕ, _+_, _-_, _≤_}
 use native.Mathlib.Numerals.{add-one}
 use lib.ListN.{length, getD, drop, drop-of-length-le}
 use lib.Seq.{drop-cons}
 use Rattle.view.proofs.Buffers.{Writing, start, byte, ends}
 use borrow.Author.Needs.{needs}
-use Rattle.view.proofs.write_bytes.Statement.{statement}
-use Rattle.view.proofs.write_bytes.Tie as tie
+use Rattle.lines.proofs.write_bytes.Statement.{statement}
+use Rattle.lines.proofs.write_bytes.Tie as tie
 
 abbrev Inv-loop : tie.InvT-loop
 Inv-loop bytes out₀ i₀ out i = (i ≤ length bytes) × Writing bytes (drop i bytes) out₀ out i

@@ -4,22 +4,13 @@ use mathlib.Core.List.{List, [], _∷_, _++_, append-assoc}
 use Prim.Native.Nat.{ℕ, zero, suc, _+_, _-_, _*_, _≤_, _<_, _/_, _%_}
 use native.Mathlib.Numerals.{add-one}
 use native.Mathlib.Omega.{arith}
-use lib.ListN.{length, getD, take, drop, length-append, length-drop, List·getD-eq-default}
+use lib.ListN.{length, getD, take, drop, length-append, length-drop}
 use lib.Seq.{drop-cons, drop-drop, take-add, length-take-le}
 use Rattle.model.specs.Decoding.{u16}
-use Rattle.view.specs.Lines.{hexDigit, hex, frontFields, recordFieldWidths, widths, spaced, line}
-use Rattle.view.specs.Writing.{over, Cut}
+use Rattle.lines.specs.Lines.{hexDigit, hex, frontFields, recordFieldWidths, widths, spaced, line}
+use Rattle.view.specs.Writing.{over}
+use Rattle.lines.specs.Cutting.{Cut}
 use Rattle.view.proofs.Buffers.{Writing, first, part, part-drop}
-
--- ── the number of records ──
-
-pub number-none : (bs : List ℕ) (i : ℕ) → length bs ≤ i → 0 ≡ u16 bs i
-unfolding u16
-number-none bs i h = rw (List·getD-eq-default bs 0 {n = i} h, List·getD-eq-default bs 0 {n = i + 1} (omega arith))
-
-pub number-one : (bs : List ℕ) (i : ℕ) → length bs ≤ i + 1 → getD bs i 0 ≡ u16 bs i
-unfolding u16
-number-one bs i h = rw (List·getD-eq-default bs 0 {n = i + 1} h) (omega arith)
 
 -- ── digits ──
 

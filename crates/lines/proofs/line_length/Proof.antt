@@ -1,12 +1,12 @@
--- `view::line_length` meets its contract. Assumes nothing.
+-- `lines::line_length` meets its contract. Assumes nothing.
 use native.Mathlib.Omega.{arith}
-use Rattle.view.proofs.Printing.{length-line}
+use Rattle.lines.proofs.Printing.{length-line}
 use borrow.Author.Needs.{needs}
-use Rattle.view.proofs.line_length.Statement.{statement}
-use Rattle.view.proofs.line_length.Tie as tie
+use Rattle.lines.proofs.line_length.Statement.{statement}
+use Rattle.lines.proofs.line_length.Tie as tie
 
-number-at-requires : tie.Need-number-at-requires
-number-at-requires c κs = search needs
+records-in-requires : tie.Need-records-in-requires
+records-in-requires c κs = search needs
 
 mul-result : tie.Need-mul-result
 mul-result c = search needs
@@ -30,13 +30,13 @@ add-result-2 : tie.Need-add-result-2
 add-result-2 c = omega (arith, c .cut .ensures .few)
 
 returns : tie.Need-returns
-returns c = length-line (c .before .before .before .args .view .now) (c .before .number-at .result) (c .cut .result) (c .before .number-at .ensures .1) (c .cut .ensures)
+returns c = length-line (c .before .before .before .args .view .now) (c .before .records-in .result) (c .cut .result) (c .before .records-in .ensures .1) (c .cut .ensures)
 
 pub line-length-spec : {M : Type 1} → statement M
 line-length-spec =
     tie.close
     (tie.spec
-    number-at-requires
+    records-in-requires
     mul-result
     add-result
     mul-cut

@@ -1,16 +1,16 @@
--- `view::write_fields` meets its contract. Assumes nothing.
+-- `lines::write_fields` meets its contract. Assumes nothing.
 use mathlib.Core.Path.{refl, sym, ap, _∙_}
 use mathlib.Core.List.{List, _∷_, _++_}
 use native.Mathlib.Omega.{arith}
 use Prim.Native.Nat.{ℕ, _+_, _-_, _*_, _≤_}
 use lib.ListN.{length, take, drop, drop-of-length-le}
 use lib.Seq.{length-take-le}
-use Rattle.view.specs.Lines.{hex, spaced}
+use Rattle.lines.specs.Lines.{hex, spaced}
 use Rattle.view.proofs.Buffers.{Writing, start, piece, ends, ends-at, room-for, room-next, part-drop}
-use Rattle.view.proofs.Printing.{spaced-here, length-field}
+use Rattle.lines.proofs.Printing.{spaced-here, length-field}
 use borrow.Author.Needs.{needs}
-use Rattle.view.proofs.write_fields.Statement.{statement}
-use Rattle.view.proofs.write_fields.Tie as tie
+use Rattle.lines.proofs.write_fields.Statement.{statement}
+use Rattle.lines.proofs.write_fields.Tie as tie
 
 abbrev Inv-loop : tie.InvT-loop
 Inv-loop widths bytes out₀ rest₀ at₀ j₀ out rest at j = (j ≤ length widths) × Writing (spaced widths bytes) (spaced (drop j widths) rest) out₀ out at

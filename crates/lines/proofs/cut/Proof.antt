@@ -1,11 +1,11 @@
--- `view::cut` meets its contract. Assumes nothing.
+-- `lines::cut` meets its contract. Assumes nothing.
 use mathlib.Core.Path.{sym, _∙_}
 use native.Mathlib.Omega.{arith}
 use lib.ListN.{drop-of-length-le}
 use lib.Seq.{take-all, take-length, drop-length}
 use borrow.Author.Needs.{needs}
-use Rattle.view.proofs.cut.Statement.{statement}
-use Rattle.view.proofs.cut.Tie as tie
+use Rattle.lines.proofs.cut.Statement.{statement}
+use Rattle.lines.proofs.cut.Tie as tie
 
 returns : tie.Need-returns
 returns c = search needs

@@ -1,16 +1,16 @@
--- `view::write_line` meets its contract. Assumes nothing.
+-- `lines::write_line` meets its contract. Assumes nothing.
 use mathlib.Core.Path.{refl, sym, ap, _∙_}
 use mathlib.Core.List.{[], _∷_, _++_}
 use native.Mathlib.Omega.{arith}
 use Prim.Native.Nat.{_+_, _-_}
 use lib.ListN.{length, take, length-append}
 use lib.Seq.{length-take-le}
-use Rattle.view.specs.Lines.{hex, spaced, widths}
+use Rattle.lines.specs.Lines.{hex, spaced, widths}
 use Rattle.view.proofs.Buffers.{part, next, byte, ends, ends-at, room-next, room-for-next}
-use Rattle.view.proofs.Printing.{behindFirst, first-field, length-hex, line-parts}
+use Rattle.lines.proofs.Printing.{behindFirst, first-field, length-hex, line-parts}
 use borrow.Author.Needs.{needs}
-use Rattle.view.proofs.write_line.Statement.{statement}
-use Rattle.view.proofs.write_line.Tie as tie
+use Rattle.lines.proofs.write_line.Statement.{statement}
+use Rattle.lines.proofs.write_line.Tie as tie
 
 cut-requires : tie.Need-cut-requires
 cut-requires c κs = search needs
@@ -18,8 +18,8 @@ cut-requires c κs = search needs
 cut-requires-2 : tie.Need-cut-requires-2
 cut-requires-2 c κs = search needs
 
-number-at-requires : tie.Need-number-at-requires
-number-at-requires c κs = search needs
+records-in-requires : tie.Need-records-in-requires
+records-in-requires c κs = search needs
 
 slice-aggregate-write-hex : tie.Need-slice-aggregate-write-hex
 slice-aggregate-write-hex c = sym (length-take-le _ (c .before .before .before .before .before .before .args .view .now) (c .before .before .before .cut .ensures .within))
@@ -59,7 +59,7 @@ sub-write-fields-3 c =
     let h = c .before .before .before .before .before .before .before .before .before .before .before .before .before .pre in
     let k = c .before .before .before .before .before .before .before .before .before .before .cut in
     let m = c .before .before .before .before .before .before .before .before .before .cut2 in
-    let n = c .before .before .before .before .before .before .before .before .number-at in
+    let n = c .before .before .before .before .before .before .before .before .records-in in
     let fields = spaced behindFirst (part (k .result) (a .view .now)) in
     let records = spaced (widths (n .result)) (part (m .result) (a .view .now)) in
     let w1 = first-field (a .view .now) (a .out .now) _ (k .result) (m .result) (n .result) (k .ensures) (m .ensures) (n .ensures .1) h (c .before .before .before .before .before .write-hex .ensures) in
@@ -71,7 +71,7 @@ part-write-fields-start-3 c =
     let h = c .before .before .before .before .before .before .before .before .before .before .before .before .before .pre in
     let k = c .before .before .before .before .before .before .before .before .before .before .cut in
     let m = c .before .before .before .before .before .before .before .before .before .cut2 in
-    let n = c .before .before .before .before .before .before .before .before .number-at in
+    let n = c .before .before .before .before .before .before .before .before .records-in in
     let fields = spaced behindFirst (part (k .result) (a .view .now)) in
     let records = spaced (widths (n .result)) (part (m .result) (a .view .now)) in
     let w1 = first-field (a .view .now) (a .out .now) _ (k .result) (m .result) (n .result) (k .ensures) (m .ensures) (n .ensures .1) h (c .before .before .before .before .before .write-hex .ensures) in
@@ -86,7 +86,7 @@ write-fields-requires c κs =
     let h = c .before .before .before .before .before .before .before .before .before .before .before .before .before .before .pre in
     let k = c .before .before .before .before .before .before .before .before .before .before .before .cut in
     let m = c .before .before .before .before .before .before .before .before .before .before .cut2 in
-    let n = c .before .before .before .before .before .before .before .before .before .number-at in
+    let n = c .before .before .before .before .before .before .before .before .before .records-in in
     let fields = spaced behindFirst (part (k .result) (a .view .now)) in
     let records = spaced (widths (n .result)) (part (m .result) (a .view .now)) in
     let w1 = first-field (a .view .now) (a .out .now) _ (k .result) (m .result) (n .result) (k .ensures) (m .ensures) (n .ensures .1) h (c .before .before .before .before .before .before .write-hex .ensures) in
@@ -98,7 +98,7 @@ add-last c =
     let h = c .before .before .before .before .before .before .before .before .before .before .before .before .before .before .before .before .before .pre in
     let k = c .before .before .before .before .before .before .before .before .before .before .before .before .before .before .cut in
     let m = c .before .before .before .before .before .before .before .before .before .before .before .before .before .cut2 in
-    let n = c .before .before .before .before .before .before .before .before .before .before .before .before .number-at in
+    let n = c .before .before .before .before .before .before .before .before .before .before .before .before .records-in in
     let fields = spaced behindFirst (part (k .result) (a .view .now)) in
     let records = spaced (widths (n .result)) (part (m .result) (a .view .now)) in
     let w1 = first-field (a .view .now) (a .out .now) _ (k .result) (m .result) (n .result) (k .ensures) (m .ensures) (n .ensures .1) h (c .before .before .before .before .before .before .before .before .before .write-hex .ensures) in
@@ -121,7 +121,7 @@ sub-write-record-fields-2 c =
     let h = c .before .before .before .before .before .before .before .before .before .before .before .before .before .before .before .before .before .before .pre in
     let k = c .before .before .before .before .before .before .before .before .before .before .before .before .before .before .before .cut in
     let m = c .before .before .before .before .before .before .before .before .before .before .before .before .before .before .cut2 in
-    let n = c .before .before .before .before .before .before .before .before .before .before .before .before .before .number-at in
+    let n = c .before .before .before .before .before .before .before .before .before .before .before .before .before .records-in in
     let fields = spaced behindFirst (part (k .result) (a .view .now)) in
     let records = spaced (widths (n .result)) (part (m .result) (a .view .now)) in
     let w1 = first-field (a .view .now) (a .out .now) _ (k .result) (m .result) (n .result) (k .ensures) (m .ensures) (n .ensures .1) h (c .before .before .before .before .before .before .before .before .before .before .write-hex .ensures) in
@@ -135,7 +135,7 @@ part-write-record-fields-start-2 c =
     let h = c .before .before .before .before .before .before .before .before .before .before .before .before .before .before .before .before .before .before .pre in
     let k = c .before .before .before .before .before .before .before .before .before .before .before .before .before .before .before .cut in
     let m = c .before .before .before .before .before .before .before .before .before .before .before .before .before .before .cut2 in
-    let n = c .before .before .before .before .before .before .before .before .before .before .before .before .before .number-at in
+    let n = c .before .before .before .before .before .before .before .before .before .before .before .before .before .records-in in
     let fields = spaced behindFirst (part (k .result) (a .view .now)) in
     let records = spaced (widths (n .result)) (part (m .result) (a .view .now)) in
     let w1 = first-field (a .view .now) (a .out .now) _ (k .result) (m .result) (n .result) (k .ensures) (m .ensures) (n .ensures .1) h (c .before .before .before .before .before .before .before .before .before .before .write-hex .ensures) in
@@ -152,7 +152,7 @@ write-record-fields-requires c κs =
     let h = c .before .before .before .before .before .before .before .before .before .before .before .before .before .before .before .before .before .before .before .pre in
     let k = c .before .before .before .before .before .before .before .before .before .before .before .before .before .before .before .before .cut in
     let m = c .before .before .before .before .before .before .before .before .before .before .before .before .before .before .before .cut2 in
-    let n = c .before .before .before .before .before .before .before .before .before .before .before .before .before .before .number-at in
+    let n = c .before .before .before .before .before .before .before .before .before .before .before .before .before .before .records-in in
     let fields = spaced behindFirst (part (k .result) (a .view .now)) in
     let records = spaced (widths (n .result)) (part (m .result) (a .view .now)) in
     let w1 = first-field (a .view .now) (a .out .now) _ (k .result) (m .result) (n .result) (k .ensures) (m .ensures) (n .ensures .1) h (c .before .before .before .before .before .before .before .before .before .before .before .write-hex .ensures) in
@@ -166,7 +166,7 @@ add-end c =
     let h = c .before .before .before .before .before .before .before .before .before .before .before .before .before .before .before .before .before .before .before .before .before .before .pre in
     let k = c .before .before .before .before .before .before .before .before .before .before .before .before .before .before .before .before .before .before .before .cut in
     let m = c .before .before .before .before .before .before .before .before .before .before .before .before .before .before .before .before .before .before .cut2 in
-    let n = c .before .before .before .before .before .before .before .before .before .before .before .before .before .before .before .before .before .number-at in
+    let n = c .before .before .before .before .before .before .before .before .before .before .before .before .before .before .before .before .before .records-in in
     let fields = spaced behindFirst (part (k .result) (a .view .now)) in
     let records = spaced (widths (n .result)) (part (m .result) (a .view .now)) in
     let w1 = first-field (a .view .now) (a .out .now) _ (k .result) (m .result) (n .result) (k .ensures) (m .ensures) (n .ensures .1) h (c .before .before .before .before .before .before .before .before .before .before .before .before .before .before .write-hex .ensures) in
@@ -183,7 +183,7 @@ slice-write-out c =
     let h = c .before .before .before .before .before .before .before .before .before .before .before .before .before .before .before .before .before .before .before .before .before .before .pre in
     let k = c .before .before .before .before .before .before .before .before .before .before .before .before .before .before .before .before .before .before .before .cut in
     let m = c .before .before .before .before .before .before .before .before .before .before .before .before .before .before .before .before .before .before .cut2 in
-    let n = c .before .before .before .before .before .before .before .before .before .before .before .before .before .before .before .before .before .number-at in
+    let n = c .before .before .before .before .before .before .before .before .before .before .before .before .before .before .before .before .before .records-in in
     let fields = spaced behindFirst (part (k .result) (a .view .now)) in
     let records = spaced (widths (n .result)) (part (m .result) (a .view .now)) in
     let w1 = first-field (a .view .now) (a .out .now) _ (k .result) (m .result) (n .result) (k .ensures) (m .ensures) (n .ensures .1) h (c .before .before .before .before .before .before .before .before .before .before .before .before .before .before .write-hex .ensures) in
@@ -200,7 +200,7 @@ add-result c =
     let h = c .before .before .before .before .before .before .before .before .before .before .before .before .before .before .before .before .before .before .before .before .before .before .pre in
     let k = c .before .before .before .before .before .before .before .before .before .before .before .before .before .before .before .before .before .before .before .cut in
     let m = c .before .before .before .before .before .before .before .before .before .before .before .before .before .before .before .before .before .before .cut2 in
-    let n = c .before .before .before .before .before .before .before .before .before .before .before .before .before .before .before .before .before .number-at in
+    let n = c .before .before .before .before .before .before .before .before .before .before .before .before .before .before .before .before .before .records-in in
     let fields = spaced behindFirst (part (k .result) (a .view .now)) in
     let records = spaced (widths (n .result)) (part (m .result) (a .view .now)) in
     let w1 = first-field (a .view .now) (a .out .now) _ (k .result) (m .result) (n .result) (k .ensures) (m .ensures) (n .ensures .1) h (c .before .before .before .before .before .before .before .before .before .before .before .before .before .before .write-hex .ensures) in
@@ -217,7 +217,7 @@ same-length c =
     let h = c .before .before .before .before .before .before .before .before .before .before .before .before .before .before .before .before .before .before .before .before .before .before .pre in
     let k = c .before .before .before .before .before .before .before .before .before .before .before .before .before .before .before .before .before .before .before .cut in
     let m = c .before .before .before .before .before .before .before .before .before .before .before .before .before .before .before .before .before .before .cut2 in
-    let n = c .before .before .before .before .before .before .before .before .before .before .before .before .before .before .before .before .before .number-at in
+    let n = c .before .before .before .before .before .before .before .before .before .before .before .before .before .before .before .before .before .records-in in
     let fields = spaced behindFirst (part (k .result) (a .view .now)) in
     let records = spaced (widths (n .result)) (part (m .result) (a .view .now)) in
     let w1 = first-field (a .view .now) (a .out .now) _ (k .result) (m .result) (n .result) (k .ensures) (m .ensures) (n .ensures .1) h (c .before .before .before .before .before .before .before .before .before .before .before .before .before .before .write-hex .ensures) in
@@ -235,7 +235,7 @@ returns c =
     let h = c .before .before .before .before .before .before .before .before .before .before .before .before .before .before .before .before .before .before .before .before .before .before .pre in
     let k = c .before .before .before .before .before .before .before .before .before .before .before .before .before .before .before .before .before .before .before .cut in
     let m = c .before .before .before .before .before .before .before .before .before .before .before .before .before .before .before .before .before .before .cut2 in
-    let n = c .before .before .before .before .before .before .before .before .before .before .before .before .before .before .before .before .before .number-at in
+    let n = c .before .before .before .before .before .before .before .before .before .before .before .before .before .before .before .before .before .records-in in
     let fields = spaced behindFirst (part (k .result) (a .view .now)) in
     let records = spaced (widths (n .result)) (part (m .result) (a .view .now)) in
     let w1 = first-field (a .view .now) (a .out .now) _ (k .result) (m .result) (n .result) (k .ensures) (m .ensures) (n .ensures .1) h (c .before .before .before .before .before .before .before .before .before .before .before .before .before .before .write-hex .ensures) in
@@ -253,7 +253,7 @@ write-line-spec =
     (tie.spec
     cut-requires
     cut-requires-2
-    number-at-requires
+    records-in-requires
     slice-aggregate-write-hex
     write-hex-requires
     mul-middle

@@ -1,15 +1,15 @@
--- `view::write_record_fields` meets its contract. Assumes nothing.
+-- `lines::write_record_fields` meets its contract. Assumes nothing.
 use mathlib.Core.Path.{_≡_, refl, sym, ap, _∙_}
 use mathlib.Core.List.{List, _++_}
 use native.Mathlib.Omega.{arith}
 use Prim.Native.Nat.{ℕ, _+_, _-_, _≤_}
 use lib.ListN.{length, drop}
-use Rattle.view.specs.Lines.{recordFieldWidths, widths, spaced}
+use Rattle.lines.specs.Lines.{recordFieldWidths, widths, spaced}
 use Rattle.view.proofs.Buffers.{Writing, start, piece, ends, ends-at, room-for, room-next, part-drop}
-use Rattle.view.proofs.Printing.{record-here}
+use Rattle.lines.proofs.Printing.{record-here}
 use borrow.Author.Needs.{needs}
-use Rattle.view.proofs.write_record_fields.Statement.{statement}
-use Rattle.view.proofs.write_record_fields.Tie as tie
+use Rattle.lines.proofs.write_record_fields.Statement.{statement}
+use Rattle.lines.proofs.write_record_fields.Tie as tie
 
 abbrev Inv-loop : tie.InvT-loop
 Inv-loop count bytes out₀ fields rest₀ at₀ i₀ out rest at i = (i ≤ count) × Writing (spaced (widths count) bytes) (spaced (widths (count - i)) rest) out₀ out at

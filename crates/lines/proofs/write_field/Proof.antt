@@ -1,15 +1,15 @@
--- `view::write_field` meets its contract. Assumes nothing.
+-- `lines::write_field` meets its contract. Assumes nothing.
 use mathlib.Core.Path.{refl, sym}
 use mathlib.Core.List.{[], _∷_, append-nil}
 use native.Mathlib.Omega.{arith}
 use Prim.Native.Nat.{_-_, _*_}
 use lib.ListN.{length, length-set}
-use Rattle.view.specs.Lines.{hex}
+use Rattle.lines.specs.Lines.{hex}
 use Rattle.view.proofs.Buffers.{start, byte, piece, last, room-for}
-use Rattle.view.proofs.Printing.{length-hex}
+use Rattle.lines.proofs.Printing.{length-hex}
 use borrow.Author.Needs.{needs}
-use Rattle.view.proofs.write_field.Statement.{statement}
-use Rattle.view.proofs.write_field.Tie as tie
+use Rattle.lines.proofs.write_field.Statement.{statement}
+use Rattle.lines.proofs.write_field.Tie as tie
 
 slice-write-out : tie.Need-slice-write-out
 slice-write-out c = search needs

@@ -1,9 +1,9 @@
--- `view::hex_digit` meets its contract. Assumes nothing.
+-- `lines::hex_digit` meets its contract. Assumes nothing.
 use native.Mathlib.Omega.{arith}
 use borrow.Author.Tests.{lt-ltb, le-ltb}
 use borrow.Author.Needs.{needs}
-use Rattle.view.proofs.hex_digit.Statement.{statement}
-use Rattle.view.proofs.hex_digit.Tie as tie
+use Rattle.lines.proofs.hex_digit.Statement.{statement}
+use Rattle.lines.proofs.hex_digit.Tie as tie
 
 add-result : tie.Need-add-result
 add-result c = search needs

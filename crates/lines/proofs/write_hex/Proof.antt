@@ -1,15 +1,15 @@
--- `view::write_hex` meets its contract. Assumes nothing.
+-- `lines::write_hex` meets its contract. Assumes nothing.
 use mathlib.Core.Path.{_≡_, refl, sym, ap, ap₂, _∙_}
 use mathlib.Core.List.{[], _∷_}
 use native.Mathlib.Omega.{arith}
 use Prim.Native.Nat.{ℕ, _+_, _-_, _*_, _≤_}
 use lib.ListN.{length, drop, drop-of-length-le}
-use Rattle.view.specs.Lines.{hex}
+use Rattle.lines.specs.Lines.{hex}
 use Rattle.view.proofs.Buffers.{Writing, start, piece, ends, room-for}
-use Rattle.view.proofs.Printing.{hex-here}
+use Rattle.lines.proofs.Printing.{hex-here}
 use borrow.Author.Needs.{needs}
-use Rattle.view.proofs.write_hex.Statement.{statement}
-use Rattle.view.proofs.write_hex.Tie as tie
+use Rattle.lines.proofs.write_hex.Statement.{statement}
+use Rattle.lines.proofs.write_hex.Tie as tie
 
 abbrev Inv-loop : tie.InvT-loop
 Inv-loop bytes out₀ at₀ i₀ out at i = (i ≤ length bytes) × (at ≡ 2 * i) × Writing (hex bytes) (hex (drop i bytes)) out₀ out at

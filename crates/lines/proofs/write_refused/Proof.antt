@@ -1,13 +1,13 @@
--- `view::write_refused` meets its contract. Assumes nothing.
+-- `lines::write_refused` meets its contract. Assumes nothing.
 use mathlib.Core.Path.{refl}
 use mathlib.Core.List.{[], _∷_}
 use native.Mathlib.Omega.{arith}
 use Prim.Native.Nat.{_+_, _-_}
-use Rattle.view.specs.Lines.{refusedLine}
+use Rattle.lines.specs.Lines.{refusedLine}
 use Rattle.view.proofs.Buffers.{first, last}
 use borrow.Author.Needs.{needs}
-use Rattle.view.proofs.write_refused.Statement.{statement}
-use Rattle.view.proofs.write_refused.Tie as tie
+use Rattle.lines.proofs.write_refused.Statement.{statement}
+use Rattle.lines.proofs.write_refused.Tie as tie
 
 slice-aggregate-write-bytes : tie.Need-slice-aggregate-write-bytes
 slice-aggregate-write-bytes c = search needs
