@@ -4,7 +4,7 @@ use mathlib.Core.List.{_++_}
 use mathlib.Core.Path.{_≡_, refl}
 use Rattle.formulas.specs.Formula.{table, implies, holds}
 use Rattle.labels.specs.Order.{flows, join, meet}
-use Rattle.labels.specs.Entry.{wellFormed, readEntry}
+use Rattle.label_entries.specs.Entry.{wellFormed, readEntry}
 use Rattle.model.specs.Decoding.{u16, u32, operandBytes, known, size, instrs, fetch, after}
 use Rattle.model.specs.Operands.{popFrom, asNumber, asLabel, asHandle, asSealed, asReference, arity, dropFrame, operate, plan}
 use Rattle.model.specs.Inputs.{inputs, handles, inputSlots}

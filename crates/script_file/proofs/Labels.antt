@@ -8,11 +8,11 @@ use native.Mathlib.Omega.{arith}
 use lib.Dec.{T, ltb}
 use borrow.Author.Tests.{ltb-true, ltb-false}
 use lib.ListN.{length, getD, set, drop, length-append, List·getD-eq-default}
-use Rattle.labels.specs.Entry.{wellFormed, readEntry, entryLength}
+use Rattle.label_entries.specs.Entry.{wellFormed, readEntry, entryLength}
 use Rattle.labels.specs.declared.Label.{Label}
-use Rattle.labels.specs.declared.Entry.{Entry}
-use Rattle.labels.specs.declared.Entry.the-variants.{Read, Malformed}
-use Rattle.labels.proofs.Reading.{well-formed, found}
+use Rattle.label_entries.specs.declared.Entry.{Entry}
+use Rattle.label_entries.specs.declared.Entry.the-variants.{Read, Malformed}
+use Rattle.label_entries.proofs.Reading.{well-formed, found}
 use Rattle.script_file.specs.Sections.{consLabel, labelsAfter, readLabels, orNone}
 use Rattle.script_file.specs.Loading.{tables, padded, labelWords}
 use Rattle.script_file.specs.Parts.{tableOf, labelIn}
