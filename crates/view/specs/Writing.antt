@@ -29,5 +29,6 @@ finished f σ = record { ending = f .ending; account = closing f; store = σ }
 unfoldable pub numbers : ℕ → ℕ → ℕ → List ℕ
 numbers a b c = littleEndian 2 a ++ (littleEndian 2 b ++ littleEndian 2 c)
 
+-- a value as the code holds it
 abbrev pub tripleField : Triple → List ℕ
 tripleField v = valueField (v .kind) (v .first) (v .second)
