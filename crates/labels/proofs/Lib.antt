@@ -1,11 +1,4 @@
--- Theorems on the definitions of specs/, and lemmas for the proofs of the functions.
+-- Theorems on the definitions of specs/.
 pub mod Laws
 pub mod Published
-pub mod Words
-pub mod Masks
-pub mod Reading
-pub mod MaximalFalse
-pub mod Listing
-pub mod Writing
-pub mod RoundTrip
 pub mod Cases

@@ -1,4 +1,3 @@
 -- The definitions that the contracts of `labels` cite.
 pub mod Order
-pub mod Entry
 pub mod Cases

@@ -11,7 +11,7 @@ use lib.ListN.{length, set, replicate, length-set}
 use lib.Seq.{getD-set-other}
 use Rattle.formulas.specs.Formula.{holds, table, implies}
 use Rattle.labels.specs.Order.{flows, join}
-use Rattle.labels.specs.Entry.{wellFormed, readEntry}
+use Rattle.label_entries.specs.Entry.{wellFormed, readEntry}
 use Rattle.model.specs.Decoding.{byte, u16, u32, operandBytes, known, size, instrs, fetch, after}
 use Rattle.model.specs.Operands.{popFrom, asNumber, asLabel, asHandle, asSealed, asReference, arity, dropFrame, operate, plan}
 use Rattle.model.specs.Effects.{failTo, yield, openSlot, labelSlot, writeSlot, contentsOf, outcome, act}

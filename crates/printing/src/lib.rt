@@ -11,11 +11,11 @@ const LINE: usize = 20361;
 // Prints the line of a view, and tells whether all of it was written.
 fn print_view(view: &[u8]) -> bool {
     let mut line = [0u8; LINE];
-    let n = view::line_length(view);
+    let n = lines::line_length(view);
     if LINE < n {
         return false;
     }
-    view::write_line(view, &mut line);
+    lines::write_line(view, &mut line);
     io::write_all(STDOUT_FILENO, &line[..n])
 }
 
@@ -24,7 +24,7 @@ fn print_refused(number: u64) -> bool {
     if 9 < number {
         return false;
     }
-    view::write_refused(number as u8, &mut line);
+    lines::write_refused(number as u8, &mut line);
     io::write_all(STDOUT_FILENO, &line)
 }
 

@@ -8,10 +8,10 @@ use native.Mathlib.Omega.{arith}
 use lib.Dec.{ltb}
 use borrow.Author.Tests.{ltb-true, ltb-false}
 use lib.ListN.{length, getD, set, drop, length-append, List·getD-eq-default}
-use Rattle.labels.specs.Entry.{readEntry}
+use Rattle.label_entries.specs.Entry.{readEntry}
 use Rattle.labels.specs.declared.Label.{Label}
-use Rattle.labels.specs.declared.Entry.{Entry}
-use Rattle.labels.specs.declared.Entry.the-variants.{Read, Malformed}
+use Rattle.label_entries.specs.declared.Entry.{Entry}
+use Rattle.label_entries.specs.declared.Entry.the-variants.{Read, Malformed}
 use Rattle.model.specs.Words.{labelIn}
 use Rattle.script_file.specs.Sections.{consLabel, labelsAfter, readLabels, orNone}
 use Rattle.script_file.specs.Loading.{tables, padded, labelWords}

@@ -3,10 +3,10 @@ use mathlib.Core.List.{List, [], _∷_}
 use mathlib.Core.Option.{Option, none, some}
 use Prim.Native.Nat.{ℕ, zero, suc, _+_, _-_, _*_}
 use lib.ListN.{length, getD, take, drop}
-use Rattle.labels.specs.Entry.{readEntry}
+use Rattle.label_entries.specs.Entry.{readEntry}
 use Rattle.labels.specs.declared.Label.{Label}
-use Rattle.labels.specs.declared.Entry.{Entry}
-use Rattle.labels.specs.declared.Entry.the-variants.{Read, Malformed}
+use Rattle.label_entries.specs.declared.Entry.{Entry}
+use Rattle.label_entries.specs.declared.Entry.the-variants.{Read, Malformed}
 use Rattle.model.specs.Decoding.{u16}
 use Rattle.script_file.specs.declared.Section.{Section}
 use Rattle.script_file.specs.declared.Header.{Header}

@@ -12,7 +12,7 @@ ghost use Rattle.script_file.specs.Checks.{sizeOk, countsOk, offsetsOk, 
 ghost use Rattle.script_file.specs.Loading.{number, loaded, wordsAfter};
 ghost use Rattle.model.specs.Words.{labelIn};
 ghost use Rattle.script_file.specs.Parts.{Short, Shorts, tableOf, mark, Marks, OperandsIn};
-use labels::Entry;
+use label_entries::Entry;
 use labels::Label;
 use model::Instr;
 
@@ -172,7 +172,7 @@ fn read_labels(bytes: &[u8], count: usize) -> Table
     let mut at: usize = 0;
     let mut i: usize = 0;
     while i < count {
-        let Entry::Read(l, k) = labels::read_entry(&bytes[at..]) else {
+        let Entry::Read(l, k) = label_entries::read_entry(&bytes[at..]) else {
             return no_labels();
         };
         words[2 * i] = l.secrecy;

@@ -117,3 +117,12 @@ module _ {whole left b₀ b : List ℕ} {i : ℕ} (w : Writing whole left b₀ b
 pub first : (whole xs l b : List ℕ) → whole ≡ xs ++ l → (n : ℕ) → length xs ≡ n → n ≤ length b
     → (b′ : List ℕ) → b′ ≡ over xs b → Writing whole l b b′ n
 first whole xs l b d n e h b′ q = rw zero-add at (more (start whole whole b refl) xs l d n e (omega arith) b′ q)
+
+-- Three pieces, one behind the other: the first into the whole buffer, each other into the part behind the one before.
+pub three : (xs ys zs b : List ℕ) (k m n : ℕ) → length xs ≡ k → length ys ≡ m → length zs ≡ n → k + m + n ≤ length b
+    → (b₁ : List ℕ) → b₁ ≡ over xs b → (b₂ : List ℕ) → b₂ ≡ over ys (part k b₁) → (b₃ : List ℕ) → b₃ ≡ over zs (part (k + m) (back k b₁ b₂))
+    → back (k + m) (back k b₁ b₂) b₃ ≡ over (xs ++ (ys ++ zs)) b
+three xs ys zs b k m n ex ey ez h b₁ e₁ b₂ e₂ b₃ e₃ =
+    let one = first (xs ++ (ys ++ zs)) xs (ys ++ zs) b refl k ex (omega arith) b₁ e₁ in
+    let two = piece one ys zs refl m ey (omega arith) b₂ e₂ in
+    last two n ez h b₃ e₃

@@ -2,6 +2,5 @@
 pub mod Buffers
 pub mod Widths
 pub mod Places
-pub mod Printing
 pub mod LengthField
 pub mod SameView

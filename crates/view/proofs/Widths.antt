@@ -19,8 +19,9 @@ use Rattle.model.specs.declared.Slot.the-variants.{Empty, Full}
 use Rattle.model.specs.declared.Ending.{Ending}
 use Rattle.model.specs.declared.Ending.the-variants.{Result, Fault as Faulted, Spent}
 use Rattle.view.specs.Layout.{labelWidth, valueWidth, recordWidth, littleEndian, labelField, valueField, datumField, contentsField, endingNumber, resultField, kindByte, recordField, shown, slotField, recordFields, one, recordsShown, counts, final, viewLength, view}
-use Rattle.view.specs.Writing.{finished}
+use Rattle.view.specs.Writing.{finished, numbers, tripleField}
 use Rattle.view.specs.declared.Finish.{Finish}
+use Rattle.view.specs.declared.Triple.{Triple}
 
 -- ── numbers, labels and values ──
 
@@ -33,6 +34,12 @@ length-number (suc k) n = ap suc (length-number k (n / 256))
 join : (xs ys : List ℕ) (m n : ℕ) → length xs ≡ m → length ys ≡ n → length (xs ++ ys) ≡ m + n
 join xs ys m n e f = length-append xs ys ∙ ap₂ (λ (a b : ℕ). a + b) e f
 
+pub length-numbers : (a b c : ℕ) → length (numbers a b c) ≡ 6
+unfolding numbers
+length-numbers a b c =
+    join (littleEndian 2 a) (littleEndian 2 b ++ littleEndian 2 c) 2 4 (length-number 2 a)
+    (join (littleEndian 2 b) (littleEndian 2 c) 2 2 (length-number 2 b) (length-number 2 c))
+
 two-words : (x y : ℕ) → length (littleEndian 8 x ++ littleEndian 8 y) ≡ labelWidth
 two-words x y = join (littleEndian 8 x) (littleEndian 8 y) 8 8 (length-number 8 x) (length-number 8 y)
 
@@ -42,6 +49,9 @@ length-label l = two-words (l .secrecy) (l .integrity)
 
 length-value : (k x y : ℕ) → length (valueField k x y) ≡ valueWidth
 length-value k x y = ap (λ (n : ℕ). suc (suc n)) (two-words x y)
+
+pub length-triple : (v : Triple) → length (tripleField v) ≡ valueWidth
+length-triple v = length-value (v .kind) (v .first) (v .second)
 
 -- a handle's kind is 3 or 4, by that of its record
 pub handle-field : (k : Kind) (p : ℕ) → datumField (Handle k p) ≡ valueField (3 + kindByte k) p 0
@@ -99,8 +109,8 @@ length-records Reads p (x ∷ σ) =
 
 module _ (Reads : Label → Bool) (s : ℕ) (e : Ending) (a : Account) where
   pub counts-shown : Reads (a .label) ≡ true
-      → counts Reads s e a ≡ littleEndian 2 (endingNumber e) ++ (littleEndian 2 (s - a .steps) ++ littleEndian 2 (a .next))
-  unfolding counts
+      → counts Reads s e a ≡ numbers (endingNumber e) (s - a .steps) (a .next)
+  unfolding counts numbers
   counts-shown h = rw (h, append-assoc)
 
   pub counts-hidden : Reads (a .label) ≡ false → counts Reads s e a ≡ replicate 6 0
@@ -119,10 +129,7 @@ module _ (Reads : Label → Bool) (s : ℕ) (e : Ending) (a : Account) where
   length-counts = go (Reads (a .label)) refl
     where
       go : (b : Bool) → Reads (a .label) ≡ b → length (counts Reads s e a) ≡ 6
-      go true h =
-          ap length (counts-shown h)
-          ∙ join (littleEndian 2 (endingNumber e)) (littleEndian 2 (s - a .steps) ++ littleEndian 2 (a .next)) 2 4 (length-number 2 (endingNumber e))
-          (join (littleEndian 2 (s - a .steps)) (littleEndian 2 (a .next)) 2 2 (length-number 2 (s - a .steps)) (length-number 2 (a .next)))
+      go true h = ap length (counts-shown h) ∙ length-numbers (endingNumber e) (s - a .steps) (a .next)
       go false h = ap length (counts-hidden h)
 
   pub length-final : length (final Reads e a) ≡ 50
@@ -140,8 +147,8 @@ module _ (Reads : Label → Bool) (s : ℕ) (e : Ending) (a : Account) where
 -- the view's parts, one behind the other
 pub view-parts : (Reads : Label → Bool) (s : ℕ) (o : Outcome)
     → view Reads s o
-    ≡ counts Reads s (o .ending) (o .account) ++ (littleEndian 2 (recordsShown Reads (o .store)) ++ (littleEndian 2 62 ++ (littleEndian 2 (viewLength Reads (o .store)) ++ (final Reads (o .ending) (o .account) ++ recordFields Reads 0 (o .store)))))
-unfolding view
+    ≡ counts Reads s (o .ending) (o .account) ++ (numbers (recordsShown Reads (o .store)) 62 (viewLength Reads (o .store)) ++ (final Reads (o .ending) (o .account) ++ recordFields Reads 0 (o .store)))
+unfolding view numbers
 view-parts Reads s o = simp append-assoc
 
 -- The view's length is known from the records alone: whether the ending is shown makes no difference to it.
@@ -150,14 +157,12 @@ unfolding viewLength
 length-view Reads s o =
     let n = recordsShown Reads (o .store) in
     let records = join (final Reads (o .ending) (o .account)) _ 50 _ (length-final Reads s (o .ending) (o .account)) (length-records Reads 0 (o .store)) in
-    let total = join (littleEndian 2 (62 + 36 * n)) _ 2 _ (length-number 2 (62 + 36 * n)) records in
-    let start = join (littleEndian 2 62) _ 2 _ (length-number 2 62) total in
-    let count = join (littleEndian 2 n) _ 2 _ (length-number 2 n) start in
+    let behind = join (numbers n 62 (62 + 36 * n)) _ 6 _ (length-numbers n 62 (62 + 36 * n)) records in
     ap length (view-parts Reads s o)
-    ∙ join (counts Reads s (o .ending) (o .account)) _ 6 _ (length-counts Reads s (o .ending) (o .account)) count
+    ∙ join (counts Reads s (o .ending) (o .account)) _ 6 _ (length-counts Reads s (o .ending) (o .account)) behind
     ∙ sum n
   where
-    sum : (n : ℕ) → 6 + (2 + (2 + (2 + (50 + 36 * n)))) ≡ 62 + 36 * n
+    sum : (n : ℕ) → 6 + (6 + (50 + 36 * n)) ≡ 62 + 36 * n
     sum n = omega arith
 
 -- A view depends on an account's label, clearance, steps and next place alone.

@@ -1,11 +1,10 @@
 -- Reading a file for a label into a buffer: the answer, and the whole buffer afterwards. Checks 1 to 9.
-use mathlib.Core.Bool.{Bool, cond}
-use mathlib.Core.List.{List, [], _∷_, _++_}
+use mathlib.Core.Bool.{cond}
+use mathlib.Core.List.{List, _++_}
 use Prim.Native.Nat.{ℕ}
 use lib.Dec.{leb, ltb, eqb}
 use lib.ListN.{length, drop}
 use Rattle.labels.specs.Order.{flows}
-use Rattle.labels.specs.declared.Label.{Label}
 use Rattle.script_file.specs.Sections.{header, labelAt}
 use Rattle.script_file.specs.Checks.{refusal}
 use Rattle.script_file.specs.Program.{fileRun}

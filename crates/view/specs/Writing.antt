@@ -1,13 +1,14 @@
 -- What the writers of a view put into a buffer, and the outcome that they write of.
-use mathlib.Core.Path.{_≡_}
 use mathlib.Core.Bool.{Bool}
 use mathlib.Core.List.{List, _++_}
-use Prim.Native.Nat.{ℕ, _≤_}
-use lib.ListN.{length, take, drop}
+use Prim.Native.Nat.{ℕ}
+use lib.ListN.{length, drop}
 use Rattle.labels.specs.Order.{flows}
 use Rattle.labels.specs.declared.Label.{Label}
 use Rattle.model.specs.State.{Account, Store, Outcome}
+use Rattle.view.specs.Layout.{littleEndian, valueField}
 use Rattle.view.specs.declared.Finish.{Finish}
+use Rattle.view.specs.declared.Triple.{Triple}
 
 -- the whole buffer once v is written over its start: what lies behind v is untouched
 unfoldable pub over : List ℕ → List ℕ → List ℕ
@@ -24,9 +25,10 @@ closing f = record { label = f .label; clearance = f .clearance; steps = f .step
 abbrev pub finished : Finish → Store → Outcome
 finished f σ = record { ending = f .ending; account = closing f; store = σ }
 
--- n is how many of the first w bytes there are
-pub record Cut (w : ℕ) (bytes : List ℕ) (n : ℕ) : Type 0 where
-  pub within : n ≤ length bytes
-  pub few : n ≤ w
-  pub taken : take n bytes ≡ take w bytes
-  pub dropped : drop n bytes ≡ drop w bytes
+-- three 16-bit numbers
+unfoldable pub numbers : ℕ → ℕ → ℕ → List ℕ
+numbers a b c = littleEndian 2 a ++ (littleEndian 2 b ++ littleEndian 2 c)
+
+-- a value as the code holds it
+abbrev pub tripleField : Triple → List ℕ
+tripleField v = valueField (v .kind) (v .first) (v .second)

@@ -1,5 +1,5 @@
 // The view: what a reading label, the observer, is shown of a run that has ended, written into a buffer that the caller
-// lends; and the line that is printed of it.
+// lends.
 use labels::Label;
 use model::Contents;
 use model::Datum;
@@ -9,13 +9,11 @@ use model::Record;
 use model::Slot;
 ghost use mathlib.Core.Path.{_≡_};
 ghost use mathlib.Core.List.{[], _∷_};
-ghost use Prim.Native.Nat.{_+_, _-_, _*_, _≤_, _<_};
+ghost use Prim.Native.Nat.{_-_, _*_, _≤_};
 ghost use lib.ListN.{length, replicate};
 ghost use Rattle.store.specs.Slots.{words, slots};
-ghost use Rattle.view.specs.Layout.{labelWidth, valueWidth, recordWidth, littleEndian, labelField, valueField, datumField, contentsField, endingNumber, resultField, kindByte, recordField, recordFields, recordsShown, counts, final, viewLength, view};
-ghost use Rattle.view.specs.Lines.{hexDigit, hex, spaced, widths, line, refusedLine};
-ghost use Rattle.view.specs.Writing.{over, reads, closing, finished, Cut};
-ghost use Rattle.model.specs.Decoding.{u16};
+ghost use Rattle.view.specs.Layout.{labelWidth, valueWidth, recordWidth, littleEndian, labelField, datumField, contentsField, endingNumber, resultField, kindByte, recordField, recordFields, recordsShown, counts, final, viewLength, view};
+ghost use Rattle.view.specs.Writing.{over, reads, closing, finished, numbers, tripleField};
 
 // What a run leaves for its view, beside the store: how it ended, its last label and clearance, the steps that it
 // had left, and the next place.
@@ -27,10 +25,19 @@ pub struct Finish {
     pub next: usize,
 }
 
+// A value as a view has it: its kind, and two words.
+struct Triple {
+    kind: u8,
+    first: u64,
+    second: u64,
+}
+
 // ---- the widths and offsets of a view, in bytes
 
-// A 16-bit number, a word, a label, and a value.
-const NUMBER: usize = 2;
+// A 16-bit number and two of them, a word, a label, and a value.
+pub const NUMBER: usize = 2;
+
+const TWO_NUMBERS: usize = 2 * NUMBER;
 
 const WORD: usize = 8;
 
@@ -43,20 +50,12 @@ const FIRST: usize = 2;
 
 const SECOND: usize = FIRST + WORD;
 
-// Of the view: the six numbers, ending first; the result, label and clearance; the records.
-const USED: usize = NUMBER;
-
-const NEXT: usize = 2 * NUMBER;
-
-const SHOWN: usize = 3 * NUMBER;
-
-const START: usize = 4 * NUMBER;
-
-const LENGTH: usize = 5 * NUMBER;
+// Of the view: the last three of its six numbers, records shown first; the result, label and clearance; the records.
+pub const SHOWN: usize = 3 * NUMBER;
 
 const RESULT: usize = 6 * NUMBER;
 
-const RECORDS: usize = RESULT + FINAL;
+pub const RECORDS: usize = RESULT + FINAL;
 
 // Of what stands at RESULT: the label, the clearance, and the width of all three.
 const FINAL_LABEL: usize = VALUE;
@@ -70,7 +69,7 @@ const RECORD_LABEL: usize = 2;
 
 const RECORD_VALUE: usize = RECORD_LABEL + LABEL;
 
-const RECORD: usize = RECORD_VALUE + VALUE;
+pub const RECORD: usize = RECORD_VALUE + VALUE;
 
 // How many places the store has.
 const PLACES: usize = 256;
@@ -91,6 +90,16 @@ fn write_number(n: u64, width: usize, out: &mut [u8])
     }
 }
 
+// Three 16-bit numbers.
+fn write_numbers(a: u64, b: u64, c: u64, out: &mut [u8])
+    requires { ⌜ 6 ≤ length (now out) ⌝ }
+    ensures { λ _. ⌜ now (out .exit) ≡ over (numbers a b c) (now (out .entry)) ⌝ }
+{
+    write_number(a, NUMBER, out);
+    write_number(b, NUMBER, &mut out[NUMBER..]);
+    write_number(c, NUMBER, &mut out[TWO_NUMBERS..]);
+}
+
 fn write_zeros(count: usize, out: &mut [u8])
     requires { ⌜ count ≤ length (now out) ⌝ }
     ensures { λ _. ⌜ now (out .exit) ≡ over (replicate count 0) (now (out .entry)) ⌝ }
@@ -102,7 +111,7 @@ fn write_zeros(count: usize, out: &mut [u8])
     }
 }
 
-fn write_pair(a: u8, b: u8, out: &mut [u8])
+pub fn write_pair(a: u8, b: u8, out: &mut [u8])
     requires { ⌜ 2 ≤ length (now out) ⌝ }
     ensures { λ _. ⌜ now (out .exit) ≡ over (a ∷ b ∷ []) (now (out .entry)) ⌝ }
 {
@@ -119,33 +128,49 @@ fn write_label(l: Label, out: &mut [u8])
 }
 
 // A value: its kind, a 0 byte, two words.
-fn write_value(kind: u8, first: u64, second: u64, out: &mut [u8])
+fn write_value(v: Triple, out: &mut [u8])
     requires { ⌜ valueWidth ≤ length (now out) ⌝ }
-    ensures { λ _. ⌜ now (out .exit) ≡ over (valueField kind first second) (now (out .entry)) ⌝ }
+    ensures { λ _. ⌜ now (out .exit) ≡ over (tripleField v) (now (out .entry)) ⌝ }
 {
-    write_pair(kind, 0, out);
-    write_number(first, WORD, &mut out[FIRST..]);
-    write_number(second, WORD, &mut out[SECOND..]);
+    write_pair(v.kind, 0, out);
+    write_number(v.first, WORD, &mut out[FIRST..]);
+    write_number(v.second, WORD, &mut out[SECOND..]);
 }
 
-fn write_datum(d: Datum, out: &mut [u8])
-    requires { ⌜ valueWidth ≤ length (now out) ⌝ }
-    ensures { λ _. ⌜ now (out .exit) ≡ over (datumField d) (now (out .entry)) ⌝ }
+// The value that a datum is shown as.
+fn of_datum(d: Datum) -> Triple
+    ensures { λ r. ⌜ tripleField r ≡ datumField d ⌝ }
 {
     match d {
-        Datum::Number(n) => write_value(1, n as u64, 0, out),
-        Datum::Label(l) => write_value(2, l.secrecy, l.integrity, out),
-        Datum::Handle(kind, p) => write_value(3 + kind_byte(kind), p as u64, 0, out),
+        Datum::Number(n) => Triple {
+            kind: 1,
+            first: n as u64,
+            second: 0,
+        },
+        Datum::Label(l) => Triple {
+            kind: 2,
+            first: l.secrecy,
+            second: l.integrity,
+        },
+        Datum::Handle(kind, p) => Triple {
+            kind: 3 + kind_byte(kind),
+            first: p as u64,
+            second: 0,
+        },
     }
 }
 
-fn write_contents(contents: Contents, out: &mut [u8])
-    requires { ⌜ valueWidth ≤ length (now out) ⌝ }
-    ensures { λ _. ⌜ now (out .exit) ≡ over (contentsField contents) (now (out .entry)) ⌝ }
+// The value that a record's contents are shown as.
+fn of_contents(contents: Contents) -> Triple
+    ensures { λ r. ⌜ tripleField r ≡ contentsField contents ⌝ }
 {
     match contents {
-        Contents::Value(d) => write_datum(d, out),
-        Contents::Fault(code, number) => write_value(5, code as u64, number as u64, out),
+        Contents::Value(d) => of_datum(d),
+        Contents::Fault(code, number) => Triple {
+            kind: 5,
+            first: code as u64,
+            second: number as u64,
+        },
     }
 }
 
@@ -161,14 +186,22 @@ fn ending_number(ending: Ending) -> u64
     }
 }
 
-fn write_result(ending: Ending, out: &mut [u8])
-    requires { ⌜ valueWidth ≤ length (now out) ⌝ }
-    ensures { λ _. ⌜ now (out .exit) ≡ over (resultField ending) (now (out .entry)) ⌝ }
+// The value that a run's result is shown as: the fault, or none if spent.
+fn of_ending(ending: Ending) -> Triple
+    ensures { λ r. ⌜ tripleField r ≡ resultField ending ⌝ }
 {
     match ending {
-        Ending::Result(d) => write_datum(d, out),
-        Ending::Fault(code, number) => write_value(5, code as u64, number as u64, out),
-        Ending::Spent => write_value(0, 0, 0, out),
+        Ending::Result(d) => of_datum(d),
+        Ending::Fault(code, number) => Triple {
+            kind: 5,
+            first: code as u64,
+            second: number as u64,
+        },
+        Ending::Spent => Triple {
+            kind: 0,
+            first: 0,
+            second: 0,
+        },
     }
 }
 
@@ -193,7 +226,7 @@ fn write_record(p: u8, r: Record, out: &mut [u8])
     let contents = r.contents;
     write_pair(p, kind_byte(kind), out);
     write_label(label, &mut out[RECORD_LABEL..]);
-    write_contents(contents, &mut out[RECORD_VALUE..]);
+    write_value(of_contents(contents), &mut out[RECORD_VALUE..]);
 }
 
 // A slot as the reader may observe it: empty unless its record's label flows to the reader.
@@ -283,9 +316,12 @@ fn write_counts(reader: Label, steps: usize, finish: Finish, out: &mut [u8])
     let ending = finish.ending;
     let last = finish.label;
     if labels::flows(last, reader) {
-        write_number(ending_number(ending), NUMBER, out);
-        write_number(used(steps, finish.steps) as u64, NUMBER, &mut out[USED..]);
-        write_number(finish.next as u64, NUMBER, &mut out[NEXT..]);
+        write_numbers(
+            ending_number(ending),
+            used(steps, finish.steps) as u64,
+            finish.next as u64,
+            out,
+        );
     } else {
         write_zeros(SHOWN, out);
     }
@@ -300,7 +336,7 @@ fn write_final(reader: Label, finish: Finish, out: &mut [u8])
     let label = finish.label;
     let clearance = finish.clearance;
     if labels::flows(label, reader) {
-        write_result(ending, out);
+        write_value(of_ending(ending), out);
         write_label(label, &mut out[FINAL_LABEL..]);
         write_label(clearance, &mut out[FINAL_CLEARANCE..]);
     } else {
@@ -316,157 +352,12 @@ pub fn write_view(reader: Label, steps: usize, finish: Finish, store: &[u64], ou
 {
     let n = records_shown(reader, store);
     write_counts(reader, steps, finish, out);
-    write_number(n as u64, NUMBER, &mut out[SHOWN..]);
-    write_number(RECORDS as u64, NUMBER, &mut out[START..]);
-    write_number((RECORDS + RECORD * n) as u64, NUMBER, &mut out[LENGTH..]);
+    write_numbers(
+        n as u64,
+        RECORDS as u64,
+        (RECORDS + RECORD * n) as u64,
+        &mut out[SHOWN..],
+    );
     write_final(reader, finish, &mut out[RESULT..]);
     write_records(reader, store, &mut out[RECORDS..]);
-}
-
-// ---- the printed line
-
-// The widths of a line's fields: of those before the records, and of a record's.
-const FRONT: [usize; 13] = [2, 2, 2, 2, 2, 2, 2, 8, 8, 8, 8, 8, 8];
-
-const FIELDS: [usize; 7] = [1, 1, 8, 8, 2, 8, 8];
-
-// The 16-bit number at byte `i`; a byte that isn't there counts as 0.
-fn number_at(bytes: &[u8], i: usize) -> usize
-    requires { ⌜ i < 65536 ⌝ }
-    ensures { λ r. ⌜ (r < 65536) × (r ≡ u16 (now (bytes .entry)) i) ⌝ }
-{
-    if bytes.len() <= i {
-        return 0;
-    }
-    let low = bytes[i] as usize;
-    if bytes.len() <= i + 1 {
-        return low;
-    }
-    low + 256 * (bytes[i + 1] as usize)
-}
-
-// How many of `width` bytes there are.
-fn cut(width: usize, bytes: &[u8]) -> usize
-    ensures { λ r. ⌜ Cut width (now (bytes .entry)) r ⌝ }
-{
-    if width <= bytes.len() {
-        return width;
-    }
-    bytes.len()
-}
-
-fn hex_digit(d: u8) -> u8
-    requires { ⌜ d < 16 ⌝ }
-    ensures { λ r. ⌜ r ≡ hexDigit d ⌝ }
-{
-    if d < 10 {
-        return b'0' + d;
-    }
-    b'a' + (d - 10)
-}
-
-// Writes two digits for each byte.
-fn write_hex(bytes: &[u8], out: &mut [u8])
-    requires { ⌜ 2 * length (now bytes) ≤ length (now out) ⌝ }
-    ensures { λ _. ⌜ now (out .exit) ≡ over (hex (now (bytes .entry))) (now (out .entry)) ⌝ }
-{
-    let mut at = 0;
-    let mut i = 0;
-    while i < bytes.len() {
-        let b = bytes[i];
-        write_pair(hex_digit(b / 16), hex_digit(b % 16), &mut out[at..]);
-        at += 2;
-        i += 1;
-    }
-}
-
-// A space and a field.
-fn write_field(field: &[u8], out: &mut [u8])
-    requires { ⌜ 1 + 2 * length (now field) ≤ length (now out) ⌝ }
-    ensures { λ _. ⌜ now (out .exit) ≡ over (0x20 ∷ hex (now (field .entry))) (now (out .entry)) ⌝ }
-{
-    out[0] = b' ';
-    write_hex(field, &mut out[1..]);
-}
-
-// Writes the fields of these widths, and gives how many bytes that is.
-fn write_fields(widths: &[usize], bytes: &[u8], out: &mut [u8]) -> usize
-    requires { ⌜ length (spaced (now widths) (now bytes)) ≤ length (now out) ⌝ }
-    ensures { λ r. ⌜ (r ≡ length (spaced (now (widths .entry)) (now (bytes .entry)))) × (now (out .exit) ≡ over (spaced (now (widths .entry)) (now (bytes .entry))) (now (out .entry))) ⌝ }
-{
-    let mut rest = bytes;
-    let mut at = 0;
-    let mut j = 0;
-    while j < widths.len() {
-        let n = cut(widths[j], rest);
-        write_field(&rest[..n], &mut out[at..]);
-        at += 1 + 2 * n;
-        rest = &rest[n..];
-        j += 1;
-    }
-    at
-}
-
-// Writes the fields of `count` records, and gives how many bytes that is.
-fn write_record_fields(count: usize, bytes: &[u8], out: &mut [u8]) -> usize
-    requires { ⌜ length (spaced (widths count) (now bytes)) ≤ length (now out) ⌝ }
-    ensures { λ r. ⌜ (r ≡ length (spaced (widths count) (now (bytes .entry)))) × (now (out .exit) ≡ over (spaced (widths count) (now (bytes .entry))) (now (out .entry))) ⌝ }
-{
-    let fields = FIELDS;
-    let mut rest = bytes;
-    let mut at = 0;
-    let mut i = 0;
-    while i < count {
-        at += write_fields(&fields, rest, &mut out[at..]);
-        let n = cut(RECORD, rest);
-        rest = &rest[n..];
-        i += 1;
-    }
-    at
-}
-
-// How many bytes the line of a view has.
-pub fn line_length(view: &[u8]) -> usize
-    ensures { λ r. ⌜ r ≡ length (line (now (view .entry))) ⌝ }
-{
-    let n = number_at(view, SHOWN);
-    13 + 7 * n + 2 * cut(RECORDS + RECORD * n, view)
-}
-
-// Writes the line of a view, and gives how many bytes that is.
-pub fn write_line(view: &[u8], out: &mut [u8]) -> usize
-    requires { ⌜ length (line (now view)) ≤ length (now out) ⌝ }
-    ensures { λ r. ⌜ (r ≡ length (line (now (view .entry)))) × (now (out .exit) ≡ over (line (now (view .entry))) (now (out .entry))) ⌝ }
-{
-    let front = FRONT;
-    let first = cut(NUMBER, view);
-    let records = cut(RECORDS, view);
-    let n = number_at(view, SHOWN);
-    write_hex(&view[..first], out);
-    let middle = 2 * first;
-    let last = middle + write_fields(&front[1..], &view[first..], &mut out[middle..]);
-    let end = last + write_record_fields(n, &view[records..], &mut out[last..]);
-    out[end] = b'\n';
-    end + 1
-}
-
-fn write_bytes(bytes: &[u8], out: &mut [u8])
-    requires { ⌜ length (now bytes) ≤ length (now out) ⌝ }
-    ensures { λ _. ⌜ now (out .exit) ≡ over (now (bytes .entry)) (now (out .entry)) ⌝ }
-{
-    let mut i = 0;
-    while i < bytes.len() {
-        out[i] = bytes[i];
-        i += 1;
-    }
-}
-
-// Writes the line of a file that is refused with the number `n`: 10 bytes.
-pub fn write_refused(n: u8, out: &mut [u8])
-    requires { ⌜ (n < 10) × (10 ≤ length (now out)) ⌝ }
-    ensures { λ _. ⌜ now (out .exit) ≡ over (refusedLine n) (now (out .entry)) ⌝ }
-{
-    let text = [b'r', b'e', b'f', b'u', b's', b'e', b'd', b' '];
-    write_bytes(&text, out);
-    write_pair(b'0' + n, b'\n', &mut out[8..]);
 }

@@ -6,12 +6,12 @@ use native.Mathlib.Omega.{arith}
 use lib.ListN.{length, drop, length-drop, drop-of-length-le}
 use lib.Seq.{drop-drop}
 use borrow.Rule.Slice.PartAt.{part-to-end}
-use Rattle.labels.specs.Entry.{readEntry}
-use Rattle.labels.specs.declared.Entry.the-variants.{Read, Malformed}
+use Rattle.label_entries.specs.Entry.{readEntry}
+use Rattle.label_entries.specs.declared.Entry.the-variants.{Read, Malformed}
 use Rattle.script_file.specs.Sections.{readLabels}
 use Rattle.script_file.specs.Loading.{labelWords}
 use Rattle.script_file.specs.Parts.{tableOf}
-use Rattle.labels.proofs.RoundTrip.{read-within}
+use Rattle.label_entries.proofs.RoundTrip.{read-within}
 use Rattle.script_file.proofs.Labels.{putLabel, tableFrom, table-start, entry-read, entry-malformed, labels-end, bytes-left}
 use borrow.Author.Needs.{needs}
 use Rattle.script_file.proofs.read_labels.Statement.{statement}

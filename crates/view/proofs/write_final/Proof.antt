@@ -1,12 +1,11 @@
 -- `view::write_final` meets its contract. Assumes nothing.
-use mathlib.Core.Path.{refl, sym, ap, _∙_}
+use mathlib.Core.Path.{sym, ap, _∙_}
 use mathlib.Core.List.{List, _++_}
-use native.Mathlib.Omega.{arith}
-use Prim.Native.Nat.{ℕ, _+_, _-_}
-use Rattle.view.specs.Layout.{labelField, resultField}
-use Rattle.view.specs.Writing.{over, closing, reads as reading}
-use Rattle.view.proofs.Buffers.{first, piece, last}
-use Rattle.view.proofs.Widths.{length-label, length-result, final-shown, final-hidden}
+use Prim.Native.Nat.{ℕ}
+use Rattle.view.specs.Layout.{labelField}
+use Rattle.view.specs.Writing.{over, closing, tripleField, reads as reading}
+use Rattle.view.proofs.Buffers.{three}
+use Rattle.view.proofs.Widths.{length-label, length-triple, final-shown, final-hidden}
 use borrow.Author.Needs.{needs}
 use Rattle.view.proofs.write_final.Statement.{statement}
 use Rattle.view.proofs.write_final.Tie as tie
@@ -14,8 +13,11 @@ use Rattle.view.proofs.write_final.Tie as tie
 flows-requires : tie.Need-flows-requires
 flows-requires c κs = search needs
 
-write-result-requires : tie.Need-write-result-requires
-write-result-requires c κs = search needs
+of-ending-requires : tie.Need-of-ending-requires
+of-ending-requires c κs = search needs
+
+write-value-requires : tie.Need-write-value-requires
+write-value-requires c κs = search needs
 
 sub-write-label : tie.Need-sub-write-label
 sub-write-label c = search needs
@@ -49,16 +51,16 @@ same-length c = search needs
 
 returns : tie.Need-returns
 returns c =
-    let a = c .before .before .before .before .before .before .before .before .before .before .before .before .before .before .before .before .before .args in
+    let a = c .before .before .before .before .before .before .before .before .before .before .before .before .before .before .before .before .before .before .args in
     let f = a .finish in
-    let b = a .out .now in
+    let t = c .before .before .before .before .before .before .before .before .before .before .before .before .of-ending in
     let l = labelField (f .label) in
     let k = labelField (f .clearance) in
-    let result = first (resultField (f .ending) ++ (l ++ k)) (resultField (f .ending)) (l ++ k) b
-    refl 18 (length-result (f .ending)) (omega arith) _ (c .before .before .before .before .before .before .before .before .before .before .write-result .ensures) in
-    let label = piece result l k refl 16 (length-label (f .label)) (omega arith) _ (c .before .before .before .before .before .before .write-label .ensures) in
-    last label 16 (length-label (f .clearance)) (omega arith) _ (c .before .before .write-label2 .ensures)
-    ∙ ap (λ (v : List ℕ). over v b) (sym (final-shown (reading (a .reader)) 0 (f .ending) (closing f) (sym (c .before .before .before .before .before .before .before .before .before .before .before .before .before .flows .ensures) ∙ c .before .before .before .before .before .before .before .before .before .before .before .before .if1 .taken)))
+    three (tripleField (t .result)) l k (a .out .now) 18 16 16
+    (length-triple (t .result)) (length-label (f .label)) (length-label (f .clearance)) (c .before .before .before .before .before .before .before .before .before .before .before .before .before .before .before .before .before .before .pre)
+    _ (c .before .before .before .before .before .before .before .before .before .before .write-value .ensures) _ (c .before .before .before .before .before .before .write-label .ensures) _ (c .before .before .write-label2 .ensures)
+    ∙ ap (λ (v : List ℕ). over v (a .out .now)) (ap (λ (v : List ℕ). v ++ (l ++ k)) (t .ensures)
+    ∙ sym (final-shown (reading (a .reader)) 0 (f .ending) (closing f) (sym (c .before .before .before .before .before .before .before .before .before .before .before .before .before .before .flows .ensures) ∙ c .before .before .before .before .before .before .before .before .before .before .before .before .before .if1 .taken)))
 
 same-length-2 : tie.Need-same-length-2
 same-length-2 c = search needs
@@ -66,15 +68,17 @@ same-length-2 c = search needs
 returns-2 : tie.Need-returns-2
 returns-2 c =
     let a = c .before .before .before .before .before .before .before .before .before .args in
+    let f = a .finish in
     c .before .before .write-zeros .ensures
-    ∙ ap (λ (v : List ℕ). over v (a .out .now)) (sym (final-hidden (reading (a .reader)) 0 (a .finish .ending) (closing (a .finish)) (sym (c .before .before .before .before .before .flows .ensures) ∙ c .before .before .before .before .if1 .left)))
+    ∙ ap (λ (v : List ℕ). over v (a .out .now)) (sym (final-hidden (reading (a .reader)) 0 (f .ending) (closing f) (sym (c .before .before .before .before .before .flows .ensures) ∙ c .before .before .before .before .if1 .left)))
 
 pub write-final-spec : {M : Type 1} → statement M
 write-final-spec =
     tie.close
     (tie.spec
     flows-requires
-    write-result-requires
+    of-ending-requires
+    write-value-requires
     sub-write-label
     part-write-label-start
     part-write-label-end

@@ -1,11 +1,11 @@
 -- `view::write_record` meets its contract. Assumes nothing.
-use mathlib.Core.Path.{refl, sym, ap}
-use mathlib.Core.List.{[], _∷_, _++_}
-use native.Mathlib.Omega.{arith}
-use Prim.Native.Nat.{ℕ, _+_, _-_}
-use Rattle.view.specs.Layout.{labelField, contentsField, recordField}
-use Rattle.view.proofs.Buffers.{first, piece, last}
-use Rattle.view.proofs.Widths.{length-label, length-contents}
+use mathlib.Core.Path.{refl, ap, ap₂, _∙_}
+use mathlib.Core.List.{List, [], _∷_, _++_}
+use Prim.Native.Nat.{ℕ}
+use Rattle.view.specs.Layout.{labelField, recordField}
+use Rattle.view.specs.Writing.{over, tripleField}
+use Rattle.view.proofs.Buffers.{three}
+use Rattle.view.proofs.Widths.{length-label, length-triple}
 use borrow.Author.Needs.{needs}
 use Rattle.view.proofs.write_record.Statement.{statement}
 use Rattle.view.proofs.write_record.Tie as tie
@@ -28,17 +28,20 @@ part-write-label-end c = search needs
 write-label-requires : tie.Need-write-label-requires
 write-label-requires c κs = search needs
 
-sub-write-contents : tie.Need-sub-write-contents
-sub-write-contents c = search needs
+of-contents-requires : tie.Need-of-contents-requires
+of-contents-requires c κs = search needs
 
-part-write-contents-start : tie.Need-part-write-contents-start
-part-write-contents-start c = search needs
+sub-write-value : tie.Need-sub-write-value
+sub-write-value c = search needs
 
-part-write-contents-end : tie.Need-part-write-contents-end
-part-write-contents-end c = search needs
+part-write-value-start : tie.Need-part-write-value-start
+part-write-value-start c = search needs
 
-write-contents-requires : tie.Need-write-contents-requires
-write-contents-requires c κs = search needs
+part-write-value-end : tie.Need-part-write-value-end
+part-write-value-end c = search needs
+
+write-value-requires : tie.Need-write-value-requires
+write-value-requires c κs = search needs
 
 same-length : tie.Need-same-length
 same-length c = search needs
@@ -46,14 +49,14 @@ same-length c = search needs
 returns : tie.Need-returns
 unfolding recordField
 returns c =
-    let a = c .before .before .before .before .before .before .before .before .before .before .before .before .before .before .before .args in
-    let r = a .r in
-    let l = labelField (r .label) in
-    let v = contentsField (r .contents) in
-    let head = first (recordField (a .p) r) (a .p ∷ c .before .before .before .before .before .before .before .before .before .before .before .before .kind-byte .result ∷ []) (l ++ v) (a .out .now)
-    (ap (λ (k : ℕ). a .p ∷ k ∷ (l ++ v)) (sym (c .before .before .before .before .before .before .before .before .before .before .before .before .kind-byte .ensures))) 2 refl (omega arith) _ (c .before .before .before .before .before .before .before .before .before .before .write-pair .ensures) in
-    last (piece head l v refl 16 (length-label (r .label)) (omega arith) _ (c .before .before .before .before .before .before .write-label .ensures))
-    18 (length-contents (r .contents)) (omega arith) _ (c .before .before .write-contents .ensures)
+    let a = c .before .before .before .before .before .before .before .before .before .before .before .before .before .before .before .before .args in
+    let k = c .before .before .before .before .before .before .before .before .before .before .before .before .before .kind-byte in
+    let t = c .before .before .before .before .of-contents in
+    let l = labelField (a .r .label) in
+    three (a .p ∷ k .result ∷ []) l (tripleField (t .result)) (a .out .now) 2 16 18
+    refl (length-label (a .r .label)) (length-triple (t .result)) (c .before .before .before .before .before .before .before .before .before .before .before .before .before .before .before .before .pre)
+    _ (c .before .before .before .before .before .before .before .before .before .before .before .write-pair .ensures) _ (c .before .before .before .before .before .before .before .write-label .ensures) _ (c .before .before .write-value .ensures)
+    ∙ ap₂ (λ (n : ℕ) (v : List ℕ). over (a .p ∷ n ∷ (l ++ v)) (a .out .now)) (k .ensures) (t .ensures)
 
 pub write-record-spec : {M : Type 1} → statement M
 write-record-spec =
@@ -65,9 +68,10 @@ write-record-spec =
     part-write-label-start
     part-write-label-end
     write-label-requires
-    sub-write-contents
-    part-write-contents-start
-    part-write-contents-end
-    write-contents-requires
+    of-contents-requires
+    sub-write-value
+    part-write-value-start
+    part-write-value-end
+    write-value-requires
     same-length
     returns)

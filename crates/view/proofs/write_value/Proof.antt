@@ -1,9 +1,8 @@
 -- `view::write_value` meets its contract. Assumes nothing.
 use mathlib.Core.Path.{refl}
-use mathlib.Core.List.{[], _∷_, _++_}
-use native.Mathlib.Omega.{arith}
-use Rattle.view.specs.Layout.{littleEndian, valueField}
-use Rattle.view.proofs.Buffers.{first, piece, last}
+use mathlib.Core.List.{[], _∷_}
+use Rattle.view.specs.Layout.{littleEndian}
+use Rattle.view.proofs.Buffers.{three}
 use Rattle.view.proofs.Widths.{length-number}
 use borrow.Author.Needs.{needs}
 use Rattle.view.proofs.write_value.Statement.{statement}
@@ -42,12 +41,10 @@ same-length c = search needs
 returns : tie.Need-returns
 returns c =
     let a = c .before .before .before .before .before .before .before .before .before .before .before .before .before .args in
-    let x = a .first in
-    let y = a .second in
-    let b = a .out .now in
-    let kind = first (valueField (a .kind) x y) (a .kind ∷ 0 ∷ []) (littleEndian 8 x ++ littleEndian 8 y) b refl 2 refl (omega arith) _ (c .before .before .before .before .before .before .before .before .before .before .write-pair .ensures) in
-    let word = piece kind (littleEndian 8 x) (littleEndian 8 y) refl 8 (length-number 8 x) (omega arith) _ (c .before .before .before .before .before .before .write-number .ensures) in
-    last word 8 (length-number 8 y) (omega arith) _ (c .before .before .write-number2 .ensures)
+    let v = a .v in
+    three (v .kind ∷ 0 ∷ []) (littleEndian 8 (v .first)) (littleEndian 8 (v .second)) (a .out .now) 2 8 8
+    refl (length-number 8 (v .first)) (length-number 8 (v .second)) (c .before .before .before .before .before .before .before .before .before .before .before .before .before .pre)
+    _ (c .before .before .before .before .before .before .before .before .before .before .write-pair .ensures) _ (c .before .before .before .before .before .before .write-number .ensures) _ (c .before .before .write-number2 .ensures)
 
 pub write-value-spec : {M : Type 1} → statement M
 write-value-spec =

@@ -2,13 +2,13 @@
 use mathlib.Core.Path.{_≡_, refl, sym, ap}
 use mathlib.Core.List.{_++_}
 use native.Mathlib.Omega.{arith}
-use Prim.Native.Nat.{ℕ, _+_, _-_, _*_, _≤_}
+use Prim.Native.Nat.{ℕ, _+_, _*_, _≤_}
 use lib.ListN.{length}
 use Rattle.store.specs.Slots.{slots}
-use Rattle.view.specs.Layout.{littleEndian, recordFields, recordsShown, counts, final, viewLength, view}
-use Rattle.view.specs.Writing.{closing, finished, reads as reading}
+use Rattle.view.specs.Layout.{recordFields, recordsShown, counts, final, viewLength, view}
+use Rattle.view.specs.Writing.{closing, finished, numbers, reads as reading}
 use Rattle.view.proofs.Buffers.{first, piece, last}
-use Rattle.view.proofs.Widths.{length-number, length-counts, length-final, length-records, view-parts}
+use Rattle.view.proofs.Widths.{length-numbers, length-counts, length-final, length-records, view-parts}
 use borrow.Author.Needs.{needs}
 use Rattle.view.proofs.write_view.Statement.{statement}
 use Rattle.view.proofs.write_view.Tie as tie
@@ -20,56 +20,26 @@ write-counts-requires : tie.Need-write-counts-requires
 unfolding viewLength
 write-counts-requires c κs = search needs
 
-sub-write-number : tie.Need-sub-write-number
+mul-write-numbers : tie.Need-mul-write-numbers
+mul-write-numbers c = search needs
+
+add-write-numbers : tie.Need-add-write-numbers
+add-write-numbers c = search needs
+
+sub-write-numbers : tie.Need-sub-write-numbers
 unfolding viewLength
-sub-write-number c = search needs
+sub-write-numbers c = search needs
 
-part-write-number-start : tie.Need-part-write-number-start
+part-write-numbers-start : tie.Need-part-write-numbers-start
 unfolding viewLength
-part-write-number-start c = search needs
+part-write-numbers-start c = search needs
 
-part-write-number-end : tie.Need-part-write-number-end
-part-write-number-end c = search needs
+part-write-numbers-end : tie.Need-part-write-numbers-end
+part-write-numbers-end c = search needs
 
-write-number-requires : tie.Need-write-number-requires
+write-numbers-requires : tie.Need-write-numbers-requires
 unfolding viewLength
-write-number-requires c κs = search needs
-
-sub-write-number-2 : tie.Need-sub-write-number-2
-unfolding viewLength
-sub-write-number-2 c = search needs
-
-part-write-number-start-2 : tie.Need-part-write-number-start-2
-unfolding viewLength
-part-write-number-start-2 c = search needs
-
-part-write-number-end-2 : tie.Need-part-write-number-end-2
-part-write-number-end-2 c = search needs
-
-write-number-requires-2 : tie.Need-write-number-requires-2
-unfolding viewLength
-write-number-requires-2 c κs = search needs
-
-mul-write-number : tie.Need-mul-write-number
-mul-write-number c = search needs
-
-add-write-number : tie.Need-add-write-number
-add-write-number c = search needs
-
-sub-write-number-3 : tie.Need-sub-write-number-3
-unfolding viewLength
-sub-write-number-3 c = search needs
-
-part-write-number-start-3 : tie.Need-part-write-number-start-3
-unfolding viewLength
-part-write-number-start-3 c = search needs
-
-part-write-number-end-3 : tie.Need-part-write-number-end-3
-part-write-number-end-3 c = search needs
-
-write-number-requires-3 : tie.Need-write-number-requires-3
-unfolding viewLength
-write-number-requires-3 c κs = search needs
+write-numbers-requires c κs = search needs
 
 sub-write-final : tie.Need-sub-write-final
 unfolding viewLength
@@ -100,9 +70,9 @@ part-write-records-end c = search needs
 write-records-requires : tie.Need-write-records-requires
 unfolding viewLength
 write-records-requires c κs =
-    let a = c .before .before .before .before .before .before .before .before .before .before .before .before .before .before .before .before .before .before .before .before .before .before .before .before .args in
-    let h : 62 + 36 * recordsShown (reading (a .reader)) (slots (a .store .now)) ≤ length (a .out .now) = c .before .before .before .before .before .before .before .before .before .before .before .before .before .before .before .before .before .before .before .before .before .before .before .before .pre .1 in
-    (c .before .before .before .before .before .before .before .before .before .before .before .before .before .before .before .before .before .before .before .before .before .before .before .before .pre .0, omega (arith, h))
+    let a = c .before .before .before .before .before .before .before .before .before .before .before .before .before .before .before .before .args in
+    let h : 62 + 36 * recordsShown (reading (a .reader)) (slots (a .store .now)) ≤ length (a .out .now) = c .before .before .before .before .before .before .before .before .before .before .before .before .before .before .before .before .pre .1 in
+    (c .before .before .before .before .before .before .before .before .before .before .before .before .before .before .before .before .pre .0, omega (arith, h))
 
 same-length : tie.Need-same-length
 same-length c = search needs
@@ -110,23 +80,20 @@ same-length c = search needs
 returns : tie.Need-returns
 unfolding viewLength
 returns c =
-    let a = c .before .before .before .before .before .before .before .before .before .before .before .before .before .before .before .before .before .before .before .before .before .before .before .before .before .before .before .args in
+    let a = c .before .before .before .before .before .before .before .before .before .before .before .before .before .before .before .before .before .before .before .args in
     let R = reading (a .reader) in
     let f = a .finish in
     let σ = slots (a .store .now) in
-    let h : 62 + 36 * recordsShown R σ ≤ length (a .out .now) = c .before .before .before .before .before .before .before .before .before .before .before .before .before .before .before .before .before .before .before .before .before .before .before .before .before .before .before .pre .1 in
-    let n = c .before .before .before .before .before .before .before .before .before .before .before .before .before .before .before .before .before .before .before .before .before .before .before .before .records-shown .result in
-    let e : n ≡ recordsShown R σ = c .before .before .before .before .before .before .before .before .before .before .before .before .before .before .before .before .before .before .before .before .before .before .before .before .records-shown .ensures .1 in
+    let h : 62 + 36 * recordsShown R σ ≤ length (a .out .now) = c .before .before .before .before .before .before .before .before .before .before .before .before .before .before .before .before .before .before .before .pre .1 in
+    let n = c .before .before .before .before .before .before .before .before .before .before .before .before .before .before .before .before .records-shown .result in
+    let e : n ≡ recordsShown R σ = c .before .before .before .before .before .before .before .before .before .before .before .before .before .before .before .before .records-shown .ensures .1 in
     let closes = final R (f .ending) (closing f) in
     let records = recordFields R 0 σ in
-    let first-part = first (view R (a .steps) (finished f σ)) (counts R (a .steps) (f .ending) (closing f)) (littleEndian 2 (recordsShown R σ) ++ (littleEndian 2 62 ++ (littleEndian 2 (62 + 36 * recordsShown R σ) ++ (closes ++ records)))) (a .out .now)
-    (view-parts R (a .steps) (finished f σ)) 6 (length-counts R (a .steps) (f .ending) (closing f)) (omega (arith, h)) _ (c .before .before .before .before .before .before .before .before .before .before .before .before .before .before .before .before .before .before .before .before .before .before .write-counts .ensures) in
-    let shown-part = piece first-part (littleEndian 2 n) (littleEndian 2 62 ++ (littleEndian 2 (62 + 36 * recordsShown R σ) ++ (closes ++ records)))
-    (ap (λ (k : ℕ). littleEndian 2 k ++ (littleEndian 2 62 ++ (littleEndian 2 (62 + 36 * recordsShown R σ) ++ (closes ++ records)))) (sym e)) 2 (length-number 2 n) (omega (arith, h)) _ (c .before .before .before .before .before .before .before .before .before .before .before .before .before .before .before .before .before .before .write-number .ensures) in
-    let start-part = piece shown-part (littleEndian 2 62) (littleEndian 2 (62 + 36 * recordsShown R σ) ++ (closes ++ records)) refl 2 (length-number 2 62) (omega (arith, h)) _ (c .before .before .before .before .before .before .before .before .before .before .before .before .before .before .write-number2 .ensures) in
-    let length-part = piece start-part (littleEndian 2 (62 + 36 * n)) (closes ++ records)
-    (ap (λ (k : ℕ). littleEndian 2 (62 + 36 * k) ++ (closes ++ records)) (sym e)) 2 (length-number 2 (62 + 36 * n)) (omega (arith, h)) _ (c .before .before .before .before .before .before .before .before .before .before .write-number3 .ensures) in
-    let final-part = piece length-part closes records refl 50 (length-final R 0 (f .ending) (closing f)) (omega (arith, h)) _ (c .before .before .before .before .before .before .write-final .ensures) in
+    let first-part = first (view R (a .steps) (finished f σ)) (counts R (a .steps) (f .ending) (closing f)) (numbers (recordsShown R σ) 62 (62 + 36 * recordsShown R σ) ++ (closes ++ records)) (a .out .now)
+    (view-parts R (a .steps) (finished f σ)) 6 (length-counts R (a .steps) (f .ending) (closing f)) (omega (arith, h)) _ (c .before .before .before .before .before .before .before .before .before .before .before .before .before .before .write-counts .ensures) in
+    let numbers-part = piece first-part (numbers n 62 (62 + 36 * n)) (closes ++ records)
+    (ap (λ (k : ℕ). numbers k 62 (62 + 36 * k) ++ (closes ++ records)) (sym e)) 6 (length-numbers n 62 (62 + 36 * n)) (omega (arith, h)) _ (c .before .before .before .before .before .before .before .before .before .before .write-numbers .ensures) in
+    let final-part = piece numbers-part closes records refl 50 (length-final R 0 (f .ending) (closing f)) (omega (arith, h)) _ (c .before .before .before .before .before .before .write-final .ensures) in
     last final-part (36 * recordsShown R σ) (length-records R 0 σ) h _ (c .before .before .write-records .ensures)
 
 pub write-view-spec : {M : Type 1} → statement M
@@ -135,20 +102,12 @@ write-view-spec =
     (tie.spec
     records-shown-requires
     write-counts-requires
-    sub-write-number
-    part-write-number-start
-    part-write-number-end
-    write-number-requires
-    sub-write-number-2
-    part-write-number-start-2
-    part-write-number-end-2
-    write-number-requires-2
-    mul-write-number
-    add-write-number
-    sub-write-number-3
-    part-write-number-start-3
-    part-write-number-end-3
-    write-number-requires-3
+    mul-write-numbers
+    add-write-numbers
+    sub-write-numbers
+    part-write-numbers-start
+    part-write-numbers-end
+    write-numbers-requires
     sub-write-final
     part-write-final-start
     part-write-final-end

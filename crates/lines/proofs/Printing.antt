@@ -1,0 +1,128 @@
+-- The fields of a line: their lengths, and what is left of them as a line is written. Assumes nothing.
+use mathlib.Core.Path.{_≡_, refl, sym, ap, ap₂, _∙_}
+use mathlib.Core.List.{List, [], _∷_, _++_, append-assoc}
+use Prim.Native.Nat.{ℕ, zero, suc, _+_, _-_, _*_, _≤_, _<_, _/_, _%_}
+use native.Mathlib.Numerals.{add-one}
+use native.Mathlib.Omega.{arith}
+use lib.ListN.{length, getD, take, drop, length-append, length-drop}
+use lib.Seq.{drop-cons, drop-drop, take-add, length-take-le}
+use Rattle.model.specs.Decoding.{u16}
+use Rattle.lines.specs.Lines.{hexDigit, hex, frontFields, recordFieldWidths, widths, spaced, line}
+use Rattle.view.specs.Writing.{over}
+use Rattle.lines.specs.Cutting.{Cut}
+use Rattle.view.proofs.Buffers.{Writing, first, part, part-drop}
+
+-- ── digits ──
+
+pub length-hex : (bs : List ℕ) → length (hex bs) ≡ 2 * length bs
+unfolding hex
+length-hex [] = refl
+length-hex (b ∷ bs) = let e = length-hex bs in omega arith
+
+pub hex-here : (bs : List ℕ) (i : ℕ) → i < length bs
+    → hex (drop i bs) ≡ hexDigit (getD bs i 0 / 16) ∷ hexDigit (getD bs i 0 % 16) ∷ hex (drop (i + 1) bs)
+unfolding hex
+hex-here bs i h = ap hex (drop-cons bs i 0 h ∙ ap (λ (k : ℕ). getD bs i 0 ∷ drop k bs) (sym (add-one i)))
+
+-- ── fields ──
+
+abbrev total : List ℕ → ℕ
+total [] = 0
+total (w ∷ ws) = w + total ws
+
+total-append : (xs ys : List ℕ) → total (xs ++ ys) ≡ total xs + total ys
+total-append [] ys = omega arith
+total-append (x ∷ xs) ys = let e = total-append xs ys in omega arith
+
+length-widths : (n : ℕ) → length (widths n) ≡ 7 * n
+unfolding widths recordFieldWidths
+length-widths zero = refl
+length-widths (suc n) = let e = length-widths n in omega arith
+
+total-widths : (n : ℕ) → total (widths n) ≡ 36 * n
+unfolding widths recordFieldWidths
+total-widths zero = refl
+total-widths (suc n) = let e = total-widths n in omega arith
+
+-- a space for each field, and two digits for each byte that is there
+length-spaced : (ws bs : List ℕ) → length (spaced ws bs) ≡ length ws + 2 * length (take (total ws) bs)
+unfolding spaced
+length-spaced [] bs = refl
+length-spaced (w ∷ ws) bs =
+    let e = length-spaced ws (drop w bs) in
+    let f = length-append (hex (take w bs)) (spaced ws (drop w bs)) in
+    let g = length-hex (take w bs) in
+    let t = ap length (take-add w (total ws) bs) ∙ length-append (take w bs) (take (total ws) (drop w bs)) in
+    omega arith
+
+spaced-append : (xs ys bs : List ℕ) → spaced (xs ++ ys) bs ≡ spaced xs bs ++ spaced ys (drop (total xs) bs)
+unfolding spaced
+spaced-append [] ys bs = refl
+spaced-append (x ∷ xs) ys bs =
+    ap (λ (v : List ℕ). (0x20 ∷ hex (take x bs)) ++ v) (spaced-append xs ys (drop x bs) ∙ ap (λ (v : List ℕ). spaced xs (drop x bs) ++ spaced ys v) (drop-drop (total xs) x bs))
+    ∙ sym (append-assoc (0x20 ∷ hex (take x bs)) (spaced xs (drop x bs)) (spaced ys (drop (x + total xs) bs)))
+
+-- the field at j, of which n bytes are there
+pub spaced-here : (ws rest : List ℕ) (j n : ℕ) → j < length ws → Cut (getD ws j 0) rest n
+    → spaced (drop j ws) rest ≡ (0x20 ∷ hex (take n rest)) ++ spaced (drop (j + 1) ws) (drop n rest)
+unfolding spaced
+spaced-here ws rest j n h k =
+    ap (λ (v : List ℕ). spaced v rest) (drop-cons ws j 0 h ∙ ap (λ (i : ℕ). getD ws j 0 ∷ drop i ws) (sym (add-one j)))
+    ∙ ap₂ (λ (u v : List ℕ). (0x20 ∷ hex u) ++ spaced (drop (j + 1) ws) v) (sym (k .taken)) (sym (k .dropped))
+
+pub length-field : (w : ℕ) (rest : List ℕ) (n : ℕ) → Cut w rest n → length (0x20 ∷ hex (take n rest)) ≡ 1 + 2 * n
+length-field w rest n k = let e = length-hex (take n rest) in let f = length-take-le n rest (k .within) in omega arith
+
+-- the fields of the next of m records, k more of which follow
+pub record-here : (rest : List ℕ) (m k : ℕ) → m ≡ suc k
+    → spaced (widths m) rest ≡ spaced recordFieldWidths rest ++ spaced (widths k) (drop 36 rest)
+unfolding widths recordFieldWidths
+record-here rest m k e = ap (λ (n : ℕ). spaced (widths n) rest) e ∙ spaced-append recordFieldWidths (widths k) rest
+
+-- ── the line ──
+
+abbrev pub behindFirst : List ℕ
+behindFirst = 2 ∷ 2 ∷ 2 ∷ 2 ∷ 2 ∷ 2 ∷ 8 ∷ 8 ∷ 8 ∷ 8 ∷ 8 ∷ 8 ∷ []
+
+spaced-first : (w : ℕ) (ws bs : List ℕ) → drop 1 (spaced (w ∷ ws) bs) ≡ hex (take w bs) ++ spaced ws (drop w bs)
+unfolding spaced
+spaced-first w ws bs = refl
+
+regroup : (a b c d : List ℕ) → (a ++ (b ++ c)) ++ d ≡ a ++ (b ++ (c ++ d))
+regroup a b c d = simp append-assoc
+
+-- the first field, the others before the records, the records', a line feed
+pub line-parts : (v : List ℕ) (k m : ℕ) → Cut 2 v k → Cut 62 v m
+    → line v ≡ hex (take k v) ++ (spaced behindFirst (drop k v) ++ (spaced (widths (u16 v 6)) (drop m v) ++ (0x0A ∷ [])))
+unfolding line frontFields
+line-parts v k m c d =
+    let n = u16 v 6 in
+    let rest = spaced-append behindFirst (widths n) (drop 2 v) ∙ ap (λ (x : List ℕ). spaced behindFirst (drop 2 v) ++ spaced (widths n) x) (drop-drop 60 2 v) in
+    ap (λ (x : List ℕ). x ++ (0x0A ∷ [])) (spaced-first 2 (behindFirst ++ widths n) v ∙ ap (λ (x : List ℕ). hex (take 2 v) ++ x) rest)
+    ∙ regroup (hex (take 2 v)) (spaced behindFirst (drop 2 v)) (spaced (widths n) (drop 62 v)) (0x0A ∷ [])
+    ∙ sym (rw (c .taken, c .dropped, d .dropped))
+
+-- the first field is written
+pub first-field : (v b b′ : List ℕ) (k m n : ℕ) → Cut 2 v k → Cut 62 v m → n ≡ u16 v 6 → length (line v) ≤ length b → b′ ≡ over (hex (take k v)) b
+    → Writing (line v) (spaced behindFirst (part k v) ++ (spaced (widths n) (part m v) ++ (0x0A ∷ []))) b b′ (2 * k)
+first-field v b b′ k m n c d e h q =
+    first (line v) (hex (take k v)) _ b whole (2 * k) digits (let f = ap length whole ∙ length-append (hex (take k v)) _ in omega (arith, digits)) b′ q
+  where
+    whole : line v ≡ hex (take k v) ++ (spaced behindFirst (part k v) ++ (spaced (widths n) (part m v) ++ (0x0A ∷ [])))
+    whole = line-parts v k m c d ∙ rw (part-drop k v, part-drop m v, e)
+
+    digits : length (hex (take k v)) ≡ 2 * k
+    digits = length-hex (take k v) ∙ ap (λ (x : ℕ). 2 * x) (length-take-le k v (c .within))
+
+pub length-line : (v : List ℕ) (n r : ℕ) → n ≡ u16 v 6 → Cut (62 + 36 * n) v r → 13 + 7 * n + 2 * r ≡ length (line v)
+unfolding line frontFields
+length-line v n r e c =
+    let k = u16 v 6 in
+    let ws = frontFields ++ widths k in
+    let a = length-append (drop 1 (spaced ws v)) (0x0A ∷ []) in
+    let b = length-drop 1 (spaced ws v) in
+    let s = length-spaced ws v in
+    let l = length-widths k in
+    let t : total ws ≡ 62 + 36 * n = total-append frontFields (widths k) ∙ (let f = total-widths k in omega arith) in
+    let g : length (take (total ws) v) ≡ r = ap (λ (x : ℕ). length (take x v)) t ∙ ap length (sym (c .taken)) ∙ length-take-le r v (c .within) in
+    omega arith

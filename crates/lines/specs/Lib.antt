@@ -1,0 +1,3 @@
+-- The definition of the printed lines. Cutting has the term in which the contracts of the code speak of too few bytes.
+pub mod Lines
+pub mod Cutting
