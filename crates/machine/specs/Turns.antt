@@ -12,7 +12,6 @@ use Rattle.model.specs.declared.Value.{Value}
 use Rattle.model.specs.declared.Datum.{Datum}
 use Rattle.model.specs.declared.Arity.{Arity}
 use Rattle.model.specs.declared.Instr.{Instr}
-use Rattle.model.specs.declared.Instr.the-variants.{End, Push, Lab, Get, Set, Pop, Add, Sub, Less, Same, Jump, Ifz, Cur, Clr, Raise, Lower, Flows, Join, Meet, Seal, Open, Labof, New, Read, Write, Block, Try, Done, Throw, Input}
 use Rattle.model.specs.State.{Control, Account, Store, Outcome, Runner, number, withSteps}
 use Rattle.model.specs.Decoding.{byte, fetch, after}
 use Rattle.model.specs.Operands.{arity, plan}
@@ -152,40 +151,6 @@ found code ws rs s σ τ f g o a d ok nb ef eg eo ea dec =
       fits = rw (dec .pops) (step-fits ws rs σ τ s1 i (arity i) o (planOf i (arity i) o ws rs) (d .effect) ok refl eo1 refl ev);
       meets = rw (dec .pops) (step-meets code ws rs s (runs (program code ws rs)) σ s1 (record { instr = i; after = d .after }) (arity i) o (planOf i (arity i) o ws rs) (d .effect) τ refl (rw (dec .goes)) nb refl eo1 refl ev);
     }
-
--- no instruction leaves more than two values
-pub leaves-few : (i : Instr) → arity i .leaves ≤ 2
-unfolding arity
-leaves-few End = omega arith
-leaves-few (Push n) = omega arith
-leaves-few (Lab i) = omega arith
-leaves-few (Get i) = omega arith
-leaves-few (Set i) = omega arith
-leaves-few Pop = omega arith
-leaves-few Add = omega arith
-leaves-few Sub = omega arith
-leaves-few Less = omega arith
-leaves-few Same = omega arith
-leaves-few (Jump t) = omega arith
-leaves-few (Ifz t) = omega arith
-leaves-few Cur = omega arith
-leaves-few Clr = omega arith
-leaves-few Raise = omega arith
-leaves-few Lower = omega arith
-leaves-few Flows = omega arith
-leaves-few Join = omega arith
-leaves-few Meet = omega arith
-leaves-few Seal = omega arith
-leaves-few Open = omega arith
-leaves-few Labof = omega arith
-leaves-few New = omega arith
-leaves-few Read = omega arith
-leaves-few Write = omega arith
-leaves-few (Block t n k) = omega arith
-leaves-few (Try h) = omega arith
-leaves-few Done = omega arith
-leaves-few Throw = omega arith
-leaves-few (Input i) = omega arith
 
 -- ── one turn after the other ──
 

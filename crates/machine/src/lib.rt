@@ -21,7 +21,7 @@ ghost use Rattle.model.specs.Running.{runs, startControl, startAccount};
 ghost use Rattle.operands.specs.Program.{program, count};
 ghost use Rattle.store.specs.Slots.{words, slots};
 ghost use Rattle.effects.specs.Bridge.{lent};
-ghost use Rattle.machine.specs.State.{Ok, Live, Does, Ran, control, account, nextOf, endingOf, outcomeOf, isLive, presentOf, popped, pushed, raised, lowered, charged, taken, jumped, framed, unframed, ended, bodied};
+ghost use Rattle.machine.specs.State.{Ok, Live, Does, Ran, control, account, nextOf, endingOf, outcomeOf, isLive, presentOf, popped, pushed, raised, charged, taken, jumped, framed, ended, bodied};
 ghost use Rattle.machine.specs.Steps.{Sizes, Started, stepOf, runOf};
 ghost use Rattle.machine.specs.Turns.{Decided, seen, readyOf, turns};
 
@@ -159,14 +159,6 @@ impl State {
         self
     }
 
-    // Sets the clearance.
-    pub fn lower(mut self, l: Label) -> State
-        ensures { λ r. ⌜ r ≡ lowered l self ⌝ }
-    {
-        self.clearance = l;
-        self
-    }
-
     // Pays n steps.
     pub fn charge(mut self, n: usize) -> State
         requires { ⌜ n ≤ self .steps ⌝ }
@@ -202,15 +194,6 @@ impl State {
         let height = 32 - self.top;
         self.frames[newest] = Frame { handler: h, height };
         self.newest = newest;
-        self
-    }
-
-    fn leave_try(mut self) -> State
-        requires { ⌜ self .newest < 8 ⌝ }
-        ensures { λ r. ⌜ r ≡ unframed self ⌝ }
-    {
-        let newest = self.newest;
-        self.newest = newest + 1;
         self
     }
 
@@ -359,7 +342,7 @@ impl State {
                     self = self.fail(code, n);
                 }
                 Effect::Drop => {
-                    self = self.pop(k);
+                    self.top = top + k;
                 }
                 Effect::Push(d) => {
                     let at = top + k - 1;
@@ -375,37 +358,39 @@ impl State {
                     self.top = at;
                 }
                 Effect::Set(i, d) => {
-                    self = self.pop(k);
+                    self.top = top + k;
                     if i < 16 {
                         self.locals[i] = Value { datum: d };
                     }
                 }
                 Effect::Jump(t) => {
-                    self = self.pop(k);
-                    self = self.jump(t);
+                    self.top = top + k;
+                    self.pc = t;
                 }
                 Effect::Try(h) => {
-                    self = self.pop(k);
+                    self.top = top + k;
                     self = self.enter_try(h);
                 }
                 Effect::Done => {
-                    self = self.pop(k);
-                    self = self.leave_try();
+                    self.top = top + k;
+                    let newest = self.newest;
+                    self.newest = newest + 1;
                 }
                 Effect::End(d) => {
-                    self = self.pop(k);
+                    self.top = top + k;
                     self = self.end(Ending::Result(d));
                 }
                 Effect::Raise(l) => {
-                    self = self.pop(k);
+                    self.top = top + k;
                     self = self.raise(l);
                 }
                 Effect::Lower(l) => {
-                    self = self.pop(k);
-                    self = self.lower(l);
+                    self.top = top + k;
+                    self.clearance = l;
                 }
                 Effect::Make(d) => {
-                    self = self.take(1);
+                    let next = self.next;
+                    self.next = next + 1;
                     let at = top + k - 1;
                     self.stack[at] = Value { datum: d };
                     self.top = at;

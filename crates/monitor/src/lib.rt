@@ -128,13 +128,8 @@ fn read_loaded(file: &[u8], h: Header, labels: &[u64], reader: usize, buffer: &m
     }
     let mut store = [0u64; 1536];
     let f = run_file(file, h, labels, &mut store);
-    show(
-        operands::label_at(labels, reader),
-        h.steps,
-        f,
-        &store,
-        buffer,
-    )
+    let label = operands::label_at(labels, reader);
+    show(label, h.steps, f, &store, buffer)
 }
 
 // Reads a file for the label with index `reader`: its view goes to the start of `buffer`.

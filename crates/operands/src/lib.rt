@@ -377,13 +377,14 @@ fn operate(i: Instr, o: Operands, labels: &[u64], records: &[u8]) -> Plan
 }
 
 pub fn plan_of(i: Instr, a: Arity, o: Operands, labels: &[u64], records: &[u8]) -> Plan
-    requires { ⌜ (length (now labels) < 2 ^ 32) × (o .height ≤ 32) × (a .leaves ≤ 2) ⌝ }
+    requires { ⌜ (length (now labels) < 2 ^ 32) × (o .height ≤ 32) ⌝ }
     ensures { λ r. ⌜ r ≡ planOf i a o (now (labels .entry)) (now (records .entry)) ⌝ }
 {
     if o.height < a.takes {
         return Plan::Fault(20);
     }
-    if 32 < o.height - a.takes + a.leaves {
+    let kept = o.height - a.takes;
+    if 32 - kept < a.leaves {
         return Plan::Fault(21);
     }
     operate(i, o, labels, records)

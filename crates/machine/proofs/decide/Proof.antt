@@ -1,4 +1,4 @@
-use Rattle.machine.specs.Turns.{decided, leaves-few}
+use Rattle.machine.specs.Turns.{decided}
 use borrow.Author.Needs.{needs}
 use Rattle.machine.proofs.decide.Statement.{statement}
 use Rattle.machine.proofs.decide.Tie as tie
@@ -19,7 +19,7 @@ arity-requires c κs = search needs
 
 -- src/lib.rt:111:9
 plan-of-requires : tie.Need-plan-of-requires
-plan-of-requires c κs = (c .before .before .before .before .before .before .pre .0 .labels, c .before .before .before .before .before .before .pre .1, rw (c .arity .ensures) (leaves-few _))
+plan-of-requires c κs = search needs
 
 -- src/lib.rt:112:9
 effect-of-requires : tie.Need-effect-of-requires
