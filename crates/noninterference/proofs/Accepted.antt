@@ -18,7 +18,7 @@ use Rattle.model.proofs.Landing.{Lands}
 use Rattle.model.proofs.Start.{AlikeInputs, length-inputs, length-slots, numbers-point, start-fresh, start-equivalent}
 use Rattle.model.proofs.Reached.{Reached, Holds, nextPlan, all, Safe, reached-safe, safe-holds}
 use Rattle.script_file.specs.Sections.{header, recordBytes, codeBytes, labelAt}
-use Rattle.script_file.specs.Sweep.{among, starts, instrOk, codeOk}
+use Rattle.code_check.specs.Sweep.{among, starts, instrOk, codeOk}
 use Rattle.script_file.specs.Checks.{passes7, refusal}
 use Rattle.script_file.specs.Program.{fileInputs, fileProgram, fileAccount, fileRun}
 use Rattle.script_file.proofs.Answers.{accepted as passes, within-limits, in-place}

@@ -9,7 +9,7 @@ use borrow.Rule.Slice.PartAt.{part-to-end}
 use Rattle.labels.specs.Order.{flows}
 use Rattle.model.specs.Words.{labelIn}
 use Rattle.script_file.specs.Sections.{header, labelBytes, recordBytes, codeBytes, readLabels, fileLabels, labelAt, orNone}
-use Rattle.script_file.specs.Sweep.{codeOk}
+use Rattle.code_check.specs.Sweep.{codeOk}
 use Rattle.script_file.specs.Checks.{sizeOk, countsOk, offsetsOk, recordsOk, passes1, passes2, passes3, passes4, passes5, passes6, passes7, refusal}
 use Rattle.script_file.specs.Loading.{labelWords}
 use Rattle.script_file.specs.Parts.{tableOf}

@@ -1,6 +1,5 @@
 pub mod Tests
 pub mod Limits
-pub mod Starts
 pub mod Labels
 pub mod Records
 pub mod Answers

@@ -9,7 +9,7 @@ use Rattle.labels.specs.Order.{flows}
 use Rattle.labels.specs.declared.Label.{Label}
 use Rattle.model.specs.Decoding.{byte}
 use Rattle.script_file.specs.Sections.{header, recordBytes, codeBytes, fileLabels, labelAt}
-use Rattle.script_file.specs.Sweep.{codeOk}
+use Rattle.code_check.specs.Sweep.{codeOk}
 use Rattle.script_file.specs.declared.Header.{Header}
 
 -- every test of a list holds

@@ -4,8 +4,8 @@ use mathlib.Core.Path.{sym}
 use lib.ListN.{List·getD-eq-default}
 use denote.Ref.{now}
 use borrow.Author.Needs.{needs}
-use Rattle.script_file.proofs.is_start.Statement.{statement}
-use Rattle.script_file.proofs.is_start.Tie as tie
+use Rattle.code_check.proofs.is_start.Statement.{statement}
+use Rattle.code_check.proofs.is_start.Tie as tie
 
 -- `script_file::is_start` meets its contract.
 

@@ -5,11 +5,11 @@ use native.Mathlib.Omega.{arith}
 use borrow.Author.Tests.{not-true, not-false}
 use lib.ListN.{length}
 use Rattle.model.specs.Decoding.{byte, size, after}
-use Rattle.script_file.specs.Sweep.{starts, all, instrOk}
-use Rattle.script_file.proofs.Starts.{from, size-some, from-end, after-step, unknown-stops, cut-stops, operands-stop, goes-on}
+use Rattle.code_check.specs.Sweep.{starts, all, instrOk}
+use Rattle.code_check.proofs.Starts.{from, size-some, from-end, after-step, unknown-stops, cut-stops, operands-stop, goes-on}
 use borrow.Author.Needs.{needs}
-use Rattle.script_file.proofs.instrs_ok.Statement.{statement}
-use Rattle.script_file.proofs.instrs_ok.Tie as tie
+use Rattle.code_check.proofs.instrs_ok.Statement.{statement}
+use Rattle.code_check.proofs.instrs_ok.Tie as tie
 
 -- `script_file::instrs_ok` meets its contract: what is left of the sweep decides.
 

@@ -1,9 +1,9 @@
 -- `script_file::operands_ok` meets its contract: each arm by its instruction.
 use mathlib.Core.Path.{_∙_}
-use Rattle.script_file.specs.Sweep.{operandsOk}
+use Rattle.code_check.specs.Sweep.{operandsOk}
 use borrow.Author.Needs.{needs}
-use Rattle.script_file.proofs.operands_ok.Statement.{statement}
-use Rattle.script_file.proofs.operands_ok.Tie as tie
+use Rattle.code_check.proofs.operands_ok.Statement.{statement}
+use Rattle.code_check.proofs.operands_ok.Tie as tie
 
 -- `script_file::operands_ok` meets its contract: each arm by its instruction.
 

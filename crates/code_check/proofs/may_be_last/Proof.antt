@@ -1,8 +1,8 @@
 -- `script_file::may_be_last` meets its contract.
 use borrow.Author.Tests.{eq-eqb, ne-eqb}
-use Rattle.script_file.specs.Sweep.{mayBeLast}
-use Rattle.script_file.proofs.may_be_last.Statement.{statement}
-use Rattle.script_file.proofs.may_be_last.Tie as tie
+use Rattle.code_check.specs.Sweep.{mayBeLast}
+use Rattle.code_check.proofs.may_be_last.Statement.{statement}
+use Rattle.code_check.proofs.may_be_last.Tie as tie
 
 returns : tie.Need-returns
 unfolding mayBeLast

@@ -5,12 +5,12 @@ use mathlib.Core.Path.{sym, ap, subst, _∙_}
 use native.Mathlib.Omega.{arith}
 use borrow.Author.Tests.{not-true, not-false}
 use Rattle.model.specs.Decoding.{byte}
-use Rattle.script_file.specs.Sweep.{starts, mayBeLast, codeOk}
-use Rattle.script_file.specs.Parts.{Marks}
-use Rattle.script_file.proofs.Starts.{starts-marked}
+use Rattle.code_check.specs.Sweep.{starts, mayBeLast, codeOk}
+use Rattle.code_check.specs.Marks.{Marks}
+use Rattle.code_check.proofs.Starts.{starts-marked}
 use borrow.Author.Needs.{needs}
-use Rattle.script_file.proofs.code_ok.Statement.{statement}
-use Rattle.script_file.proofs.code_ok.Tie as tie
+use Rattle.code_check.proofs.code_ok.Statement.{statement}
+use Rattle.code_check.proofs.code_ok.Tie as tie
 
 -- `script_file::code_ok` meets its contract.
 

@@ -5,12 +5,12 @@ use Prim.Native.Nat.{ℕ, _-_, _≤_, _<_}
 use native.Mathlib.Omega.{arith}
 use lib.ListN.{length, length-set}
 use Rattle.decode.proofs.Sizes.{size-short}
-use Rattle.script_file.specs.Sweep.{starts, lastOf}
-use Rattle.script_file.specs.Parts.{mark}
-use Rattle.script_file.proofs.Starts.{from, size-some, from-step, from-end}
+use Rattle.code_check.specs.Sweep.{starts, lastOf}
+use Rattle.code_check.specs.Marks.{mark}
+use Rattle.code_check.proofs.Starts.{from, size-some, from-step, from-end}
 use borrow.Author.Needs.{needs}
-use Rattle.script_file.proofs.mark_starts.Statement.{statement}
-use Rattle.script_file.proofs.mark_starts.Tie as tie
+use Rattle.code_check.proofs.mark_starts.Statement.{statement}
+use Rattle.code_check.proofs.mark_starts.Tie as tie
 
 -- `script_file::mark_starts` meets its contract: what is left of the sweep makes the rest of the marks.
 
