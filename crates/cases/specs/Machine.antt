@@ -10,7 +10,8 @@ use Rattle.labels.specs.declared.Label.{Label}
 use Rattle.model.specs.State.{at}
 use Rattle.script_file.specs.Checks.{every, refusal}
 use Rattle.script_file.specs.Program.{fileRun}
-use Rattle.view.specs.Layout.{littleEndian, valueField, labelField, resultField, slotField}
+use Rattle.view_fields.specs.Fields.{littleEndian, valueField, labelField, resultField}
+use Rattle.view.specs.Layout.{slotField}
 
 -- the file of l label entries, c input records, a code, s steps and k places
 abbrev file : ℕ → List ℕ → ℕ → List ℕ → List ℕ → ℕ → ℕ → List ℕ

@@ -1,15 +1,15 @@
 // The printed line: a view's fields as hex bytes parted by spaces, or that a file is refused and why, written into a
 // buffer that the caller lends.
-use view::NUMBER;
-use view::RECORD;
 use view::RECORDS;
 use view::SHOWN;
+use view_fields::NUMBER;
+use view_fields::RECORD;
 ghost use mathlib.Core.Path.{_≡_};
 ghost use mathlib.Core.List.{_∷_};
 ghost use Prim.Native.Nat.{_+_, _*_, _≤_, _<_};
 ghost use lib.ListN.{length};
 ghost use Rattle.model.specs.Decoding.{u16};
-ghost use Rattle.view.specs.Writing.{over};
+ghost use Rattle.view_fields.specs.Writing.{over};
 ghost use Rattle.lines.specs.Lines.{hexDigit, hex, spaced, widths, line, refusedLine};
 ghost use Rattle.lines.specs.Cutting.{Cut};
 
@@ -54,7 +54,7 @@ fn write_hex(bytes: &[u8], out: &mut [u8])
     let mut i = 0;
     while i < bytes.len() {
         let b = bytes[i];
-        view::write_pair(hex_digit(b / 16), hex_digit(b % 16), &mut out[at..]);
+        view_fields::write_pair(hex_digit(b / 16), hex_digit(b % 16), &mut out[at..]);
         at += 2;
         i += 1;
     }
@@ -148,5 +148,5 @@ pub fn write_refused(n: u8, out: &mut [u8])
 {
     let text = [b'r', b'e', b'f', b'u', b's', b'e', b'd', b' '];
     write_bytes(&text, out);
-    view::write_pair(b'0' + n, b'\n', &mut out[8..]);
+    view_fields::write_pair(b'0' + n, b'\n', &mut out[8..]);
 }

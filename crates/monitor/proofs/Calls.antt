@@ -32,7 +32,8 @@ use Rattle.script_file.proofs.Answers.{refused-number, file-number, file-header
 use Rattle.script_file.proofs.Findings.{recordsIn, codeIn, records-in, code-in}
 use Rattle.view.specs.Layout.{view}
 use Rattle.view.specs.Reading.{Reading, refuse, show, reading, fileView, viewed}
-use Rattle.view.specs.Writing.{over, reads as readerOf, finished}
+use Rattle.view_fields.specs.Writing.{over}
+use Rattle.view.specs.Writing.{reads as readerOf, finished}
 use Rattle.view.specs.declared.Finish.{Finish}
 use Rattle.view.proofs.Widths.{view-finished}
 use Rattle.monitor.specs.Answers.{answerOf, reads, codeOf, Loads, Leaves, Finishes}

@@ -21,7 +21,8 @@ use Rattle.script_file.specs.Sections.{header, labelBytes, recordBytes, codeByt
 use Rattle.code_check.specs.Sweep.{sweep, starts, operandsOk, instrOk, mayBeLast, codeOk}
 use Rattle.script_file.specs.Checks.{every, sizeOk, countsOk, offsetsOk, recordsOk, passes1, passes2, passes3, passes4, passes5, passes6, passes7, refusal}
 use Rattle.script_file.specs.Program.{fileInputs, fileProgram, fileAccount, fileRun}
-use Rattle.view.specs.Layout.{littleEndian, labelField, datumField, contentsField, endingNumber, resultField, kindByte, recordField, shown, slotField, recordFields, recordsShown, counts, final, viewLength, view}
+use Rattle.view_fields.specs.Fields.{littleEndian, labelField, datumField, contentsField, endingNumber, resultField, kindByte, recordField}
+use Rattle.view.specs.Layout.{shown, slotField, recordFields, recordsShown, counts, final, viewLength, view}
 use Rattle.view.specs.Reading.{fileView, reading}
 use Rattle.noninterference.specs.Alike.{legible, inputLabel, Hidden, Alike, SameReads}
 use Rattle.noninterference.proofs.Demand3.{demand-3}

@@ -12,7 +12,8 @@ use Rattle.model.specs.Decoding.{byte, u16}
 use Rattle.model.specs.declared.Slot.{Slot}
 use Rattle.model.specs.declared.Slot.the-variants.{Empty, Full}
 use Rattle.model.specs.declared.Ending.{Ending}
-use Rattle.view.specs.Layout.{littleEndian, shown, recordFields, one, recordsShown, recordsAt, counts, final, viewLength, view}
+use Rattle.view_fields.specs.Fields.{littleEndian}
+use Rattle.view.specs.Layout.{shown, recordFields, one, recordsShown, recordsAt, counts, final, viewLength, view}
 use Rattle.view.proofs.Widths.{length-counts, length-view}
 
 -- behind the first three numbers

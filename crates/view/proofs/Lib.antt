@@ -1,5 +1,4 @@
 -- Theorems on the definitions of specs/, and lemmas for the proofs of the functions.
-pub mod Buffers
 pub mod Widths
 pub mod Places
 pub mod LengthField

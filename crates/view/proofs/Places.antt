@@ -14,10 +14,11 @@ use Rattle.model.specs.declared.Record.{Record}
 use Rattle.model.specs.declared.Slot.{Slot}
 use Rattle.model.specs.declared.Slot.the-variants.{Empty, Full}
 use Rattle.store.specs.Slots.{places, slots, length-slots}
-use Rattle.view.specs.Layout.{recordWidth, recordField, shown, slotField, recordFields, one, recordsShown}
-use Rattle.view.specs.Writing.{over}
-use Rattle.view.proofs.Buffers.{Writing, start, piece, ends, part, back}
-use Rattle.view.proofs.Widths.{length-record}
+use Rattle.view_fields.specs.Fields.{recordWidth, recordField}
+use Rattle.view.specs.Layout.{shown, slotField, recordFields, one, recordsShown}
+use Rattle.view_fields.specs.Writing.{over}
+use Rattle.view_fields.proofs.Buffers.{Writing, start, piece, ends, part, back}
+use Rattle.view_fields.proofs.Widths.{length-record}
 
 pub one-small : (x : Slot) → one x ≤ 1
 one-small Empty = omega arith

@@ -6,7 +6,7 @@ use Prim.Native.Nat.{ℕ, _+_, _-_, _≤_}
 use native.Mathlib.Numerals.{add-one}
 use lib.ListN.{length, getD, drop, drop-of-length-le}
 use lib.Seq.{drop-cons}
-use Rattle.view.proofs.Buffers.{Writing, start, byte, ends}
+use Rattle.view_fields.proofs.Buffers.{Writing, start, byte, ends}
 use borrow.Author.Needs.{needs}
 use Rattle.lines.proofs.write_bytes.Statement.{statement}
 use Rattle.lines.proofs.write_bytes.Tie as tie

@@ -5,7 +5,7 @@ use native.Mathlib.Omega.{arith}
 use Prim.Native.Nat.{_-_, _*_}
 use lib.ListN.{length, length-set}
 use Rattle.lines.specs.Lines.{hex}
-use Rattle.view.proofs.Buffers.{start, byte, piece, last, room-for}
+use Rattle.view_fields.proofs.Buffers.{start, byte, piece, last, room-for}
 use Rattle.lines.proofs.Printing.{length-hex}
 use borrow.Author.Needs.{needs}
 use Rattle.lines.proofs.write_field.Statement.{statement}

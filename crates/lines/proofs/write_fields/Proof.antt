@@ -6,7 +6,7 @@ use Prim.Native.Nat.{ℕ, _+_, _-_, _*_, _≤_}
 use lib.ListN.{length, take, drop, drop-of-length-le}
 use lib.Seq.{length-take-le}
 use Rattle.lines.specs.Lines.{hex, spaced}
-use Rattle.view.proofs.Buffers.{Writing, start, piece, ends, ends-at, room-for, room-next, part-drop}
+use Rattle.view_fields.proofs.Buffers.{Writing, start, piece, ends, ends-at, room-for, room-next, part-drop}
 use Rattle.lines.proofs.Printing.{spaced-here, length-field}
 use borrow.Author.Needs.{needs}
 use Rattle.lines.proofs.write_fields.Statement.{statement}

@@ -5,7 +5,7 @@ use native.Mathlib.Omega.{arith}
 use Prim.Native.Nat.{ℕ, _+_, _-_, _*_, _≤_}
 use lib.ListN.{length, drop, drop-of-length-le}
 use Rattle.lines.specs.Lines.{hex}
-use Rattle.view.proofs.Buffers.{Writing, start, piece, ends, room-for}
+use Rattle.view_fields.proofs.Buffers.{Writing, start, piece, ends, room-for}
 use Rattle.lines.proofs.Printing.{hex-here}
 use borrow.Author.Needs.{needs}
 use Rattle.lines.proofs.write_hex.Statement.{statement}

@@ -6,7 +6,7 @@ use Prim.Native.Nat.{_+_, _-_}
 use lib.ListN.{length, take, length-append}
 use lib.Seq.{length-take-le}
 use Rattle.lines.specs.Lines.{hex, spaced, widths}
-use Rattle.view.proofs.Buffers.{part, next, byte, ends, ends-at, room-next, room-for-next}
+use Rattle.view_fields.proofs.Buffers.{part, next, byte, ends, ends-at, room-next, room-for-next}
 use Rattle.lines.proofs.Printing.{behindFirst, first-field, length-hex, line-parts}
 use borrow.Author.Needs.{needs}
 use Rattle.lines.proofs.write_line.Statement.{statement}

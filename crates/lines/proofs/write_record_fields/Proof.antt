@@ -5,7 +5,7 @@ use native.Mathlib.Omega.{arith}
 use Prim.Native.Nat.{ℕ, _+_, _-_, _≤_}
 use lib.ListN.{length, drop}
 use Rattle.lines.specs.Lines.{recordFieldWidths, widths, spaced}
-use Rattle.view.proofs.Buffers.{Writing, start, piece, ends, ends-at, room-for, room-next, part-drop}
+use Rattle.view_fields.proofs.Buffers.{Writing, start, piece, ends, ends-at, room-for, room-next, part-drop}
 use Rattle.lines.proofs.Printing.{record-here}
 use borrow.Author.Needs.{needs}
 use Rattle.lines.proofs.write_record_fields.Statement.{statement}

@@ -2,7 +2,8 @@
 use mathlib.Core.Path.{sym, ap, ap₂, _∙_}
 use mathlib.Core.List.{List}
 use Prim.Native.Nat.{ℕ}
-use Rattle.view.specs.Writing.{over, closing, numbers, reads as reading}
+use Rattle.view_fields.specs.Writing.{over, numbers}
+use Rattle.view.specs.Writing.{closing, reads as reading}
 use Rattle.view.proofs.Widths.{counts-shown, counts-hidden}
 use borrow.Author.Needs.{needs}
 use Rattle.view.proofs.write_counts.Statement.{statement}

@@ -2,10 +2,12 @@
 use mathlib.Core.Path.{sym, ap, _∙_}
 use mathlib.Core.List.{List, _++_}
 use Prim.Native.Nat.{ℕ}
-use Rattle.view.specs.Layout.{labelField}
-use Rattle.view.specs.Writing.{over, closing, tripleField, reads as reading}
-use Rattle.view.proofs.Buffers.{three}
-use Rattle.view.proofs.Widths.{length-label, length-triple, final-shown, final-hidden}
+use Rattle.view_fields.specs.Fields.{labelField}
+use Rattle.view_fields.specs.Writing.{over, tripleField}
+use Rattle.view.specs.Writing.{closing, reads as reading}
+use Rattle.view_fields.proofs.Buffers.{three}
+use Rattle.view_fields.proofs.Widths.{length-label, length-triple}
+use Rattle.view.proofs.Widths.{final-shown, final-hidden}
 use borrow.Author.Needs.{needs}
 use Rattle.view.proofs.write_final.Statement.{statement}
 use Rattle.view.proofs.write_final.Tie as tie

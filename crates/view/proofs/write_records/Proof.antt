@@ -7,7 +7,7 @@ use Rattle.view.specs.Layout.{shown}
 use native.Mathlib.Omega.{arith}
 use Prim.Native.Nat.{ℕ, _+_, _-_, _<_}
 use Rattle.view.specs.Writing.{reads as reading}
-use Rattle.view.proofs.Buffers.{room-for}
+use Rattle.view_fields.proofs.Buffers.{room-for}
 use Rattle.view.proofs.Places.{Written, none-yet, all-written, room-here, written-here, hidden-here}
 use borrow.Author.Needs.{needs}
 use Rattle.view.proofs.write_records.Statement.{statement}

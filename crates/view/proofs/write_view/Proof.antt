@@ -6,9 +6,11 @@ use Prim.Native.Nat.{ℕ, _+_, _*_, _≤_}
 use lib.ListN.{length}
 use Rattle.store.specs.Slots.{slots}
 use Rattle.view.specs.Layout.{recordFields, recordsShown, counts, final, viewLength, view}
-use Rattle.view.specs.Writing.{closing, finished, numbers, reads as reading}
-use Rattle.view.proofs.Buffers.{first, piece, last}
-use Rattle.view.proofs.Widths.{length-numbers, length-counts, length-final, length-records, view-parts}
+use Rattle.view_fields.specs.Writing.{numbers}
+use Rattle.view.specs.Writing.{closing, finished, reads as reading}
+use Rattle.view_fields.proofs.Buffers.{first, piece, last}
+use Rattle.view_fields.proofs.Widths.{length-numbers}
+use Rattle.view.proofs.Widths.{length-counts, length-final, length-records, view-parts}
 use borrow.Author.Needs.{needs}
 use Rattle.view.proofs.write_view.Statement.{statement}
 use Rattle.view.proofs.write_view.Tie as tie

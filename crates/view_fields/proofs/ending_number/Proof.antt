@@ -1,8 +1,8 @@
 -- `view::ending_number` meets its contract. Assumes nothing.
-use Rattle.view.specs.Layout.{endingNumber}
+use Rattle.view_fields.specs.Fields.{endingNumber}
 use borrow.Author.Needs.{needs}
-use Rattle.view.proofs.ending_number.Statement.{statement}
-use Rattle.view.proofs.ending_number.Tie as tie
+use Rattle.view_fields.proofs.ending_number.Statement.{statement}
+use Rattle.view_fields.proofs.ending_number.Tie as tie
 
 enum-told : tie.Need-enum-told
 enum-told c = search needs

@@ -1,8 +1,8 @@
 -- `view::of_ending` meets its contract. Assumes nothing.
-use Rattle.view.specs.Layout.{resultField}
+use Rattle.view_fields.specs.Fields.{resultField}
 use borrow.Author.Needs.{needs}
-use Rattle.view.proofs.of_ending.Statement.{statement}
-use Rattle.view.proofs.of_ending.Tie as tie
+use Rattle.view_fields.proofs.of_ending.Statement.{statement}
+use Rattle.view_fields.proofs.of_ending.Tie as tie
 
 enum-known-ending : tie.Need-enum-known-ending
 enum-known-ending c = search needs

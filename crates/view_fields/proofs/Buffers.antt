@@ -7,7 +7,7 @@ use native.Mathlib.Nat.{zero-add}
 use native.Mathlib.Omega.{arith}
 use lib.ListN.{length, take, drop, set, length-append, length-take, length-drop, take-append-drop, drop-of-length-le}
 use lib.Seq.{length-take-le, take-all, take-at, drop-at, drop-drop, set-split}
-use Rattle.view.specs.Writing.{over}
+use Rattle.view_fields.specs.Writing.{over}
 
 -- The buffer was b₀ and is b, written up to i. Once `left` is written too, from i on, it is b₀ with `whole` over its start.
 pub record Writing (whole left b₀ b : List ℕ) (i : ℕ) : Type 0 where

@@ -2,13 +2,13 @@
 use mathlib.Core.Path.{refl, ap, ap₂, _∙_}
 use mathlib.Core.List.{List, [], _∷_, _++_}
 use Prim.Native.Nat.{ℕ}
-use Rattle.view.specs.Layout.{labelField, recordField}
-use Rattle.view.specs.Writing.{over, tripleField}
-use Rattle.view.proofs.Buffers.{three}
-use Rattle.view.proofs.Widths.{length-label, length-triple}
+use Rattle.view_fields.specs.Fields.{labelField, recordField}
+use Rattle.view_fields.specs.Writing.{over, tripleField}
+use Rattle.view_fields.proofs.Buffers.{three}
+use Rattle.view_fields.proofs.Widths.{length-label, length-triple}
 use borrow.Author.Needs.{needs}
-use Rattle.view.proofs.write_record.Statement.{statement}
-use Rattle.view.proofs.write_record.Tie as tie
+use Rattle.view_fields.proofs.write_record.Statement.{statement}
+use Rattle.view_fields.proofs.write_record.Tie as tie
 
 kind-byte-requires : tie.Need-kind-byte-requires
 kind-byte-requires c κs = search needs

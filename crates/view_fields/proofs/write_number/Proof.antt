@@ -3,10 +3,10 @@ use mathlib.Core.Path.{_≡_, ap}
 use Prim.Native.Nat.{ℕ, suc, _+_, _-_, _≤_}
 use native.Mathlib.Omega.{arith}
 use borrow.Author.Needs.{needs}
-use Rattle.view.specs.Layout.{littleEndian}
-use Rattle.view.proofs.Buffers.{Writing, start, byte, ends}
-use Rattle.view.proofs.write_number.Statement.{statement}
-use Rattle.view.proofs.write_number.Tie as tie
+use Rattle.view_fields.specs.Fields.{littleEndian}
+use Rattle.view_fields.proofs.Buffers.{Writing, start, byte, ends}
+use Rattle.view_fields.proofs.write_number.Statement.{statement}
+use Rattle.view_fields.proofs.write_number.Tie as tie
 
 abbrev Inv-loop : tie.InvT-loop
 Inv-loop n width out₀ rest₀ i₀ out rest i = (i ≤ width) × Writing (littleEndian width n) (littleEndian (width - i) rest) out₀ out i

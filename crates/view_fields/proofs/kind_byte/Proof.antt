@@ -1,8 +1,8 @@
 -- `view::kind_byte` meets its contract. Assumes nothing.
-use Rattle.view.specs.Layout.{kindByte}
+use Rattle.view_fields.specs.Fields.{kindByte}
 use borrow.Author.Needs.{needs}
-use Rattle.view.proofs.kind_byte.Statement.{statement}
-use Rattle.view.proofs.kind_byte.Tie as tie
+use Rattle.view_fields.proofs.kind_byte.Statement.{statement}
+use Rattle.view_fields.proofs.kind_byte.Tie as tie
 
 enum-told : tie.Need-enum-told
 enum-told c = search needs

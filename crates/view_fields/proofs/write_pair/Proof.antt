@@ -3,10 +3,10 @@ use mathlib.Core.Path.{refl}
 use mathlib.Core.List.{[], _∷_}
 use native.Mathlib.Omega.{arith}
 use lib.ListN.{length-set}
-use Rattle.view.proofs.Buffers.{start, byte, ends}
+use Rattle.view_fields.proofs.Buffers.{start, byte, ends}
 use borrow.Author.Needs.{needs}
-use Rattle.view.proofs.write_pair.Statement.{statement}
-use Rattle.view.proofs.write_pair.Tie as tie
+use Rattle.view_fields.proofs.write_pair.Statement.{statement}
+use Rattle.view_fields.proofs.write_pair.Tie as tie
 
 slice-write-out : tie.Need-slice-write-out
 slice-write-out c = search needs

@@ -2,11 +2,11 @@
 use mathlib.Core.Path.{sym, ap, _∙_}
 use native.Mathlib.Omega.{arith}
 use Prim.Native.Nat.{ℕ, _+_}
-use Rattle.view.specs.Layout.{valueField, datumField}
-use Rattle.view.proofs.Widths.{handle-field, kind-small}
+use Rattle.view_fields.specs.Fields.{valueField, datumField}
+use Rattle.view_fields.proofs.Widths.{handle-field, kind-small}
 use borrow.Author.Needs.{needs}
-use Rattle.view.proofs.of_datum.Statement.{statement}
-use Rattle.view.proofs.of_datum.Tie as tie
+use Rattle.view_fields.proofs.of_datum.Statement.{statement}
+use Rattle.view_fields.proofs.of_datum.Tie as tie
 
 enum-known-d : tie.Need-enum-known-d
 enum-known-d c = search needs

@@ -4,9 +4,9 @@ use Prim.Native.Nat.{ℕ, suc, _+_, _-_, _≤_}
 use native.Mathlib.Omega.{arith}
 use lib.ListN.{replicate}
 use borrow.Author.Needs.{needs}
-use Rattle.view.proofs.Buffers.{Writing, start, byte, ends}
-use Rattle.view.proofs.write_zeros.Statement.{statement}
-use Rattle.view.proofs.write_zeros.Tie as tie
+use Rattle.view_fields.proofs.Buffers.{Writing, start, byte, ends}
+use Rattle.view_fields.proofs.write_zeros.Statement.{statement}
+use Rattle.view_fields.proofs.write_zeros.Tie as tie
 
 abbrev Inv-loop : tie.InvT-loop
 Inv-loop count out₀ i₀ out i = (i ≤ count) × Writing (replicate count 0) (replicate (count - i) 0) out₀ out i

@@ -1,11 +1,11 @@
 -- `view::write_numbers` meets its contract. Assumes nothing.
-use Rattle.view.specs.Layout.{littleEndian}
-use Rattle.view.specs.Writing.{numbers}
-use Rattle.view.proofs.Buffers.{three}
-use Rattle.view.proofs.Widths.{length-number}
+use Rattle.view_fields.specs.Fields.{littleEndian}
+use Rattle.view_fields.specs.Writing.{numbers}
+use Rattle.view_fields.proofs.Buffers.{three}
+use Rattle.view_fields.proofs.Widths.{length-number}
 use borrow.Author.Needs.{needs}
-use Rattle.view.proofs.write_numbers.Statement.{statement}
-use Rattle.view.proofs.write_numbers.Tie as tie
+use Rattle.view_fields.proofs.write_numbers.Statement.{statement}
+use Rattle.view_fields.proofs.write_numbers.Tie as tie
 
 write-number-requires : tie.Need-write-number-requires
 write-number-requires c κs = search needs

@@ -1,8 +1,8 @@
 -- `view::of_contents` meets its contract. Assumes nothing.
-use Rattle.view.specs.Layout.{contentsField}
+use Rattle.view_fields.specs.Fields.{contentsField}
 use borrow.Author.Needs.{needs}
-use Rattle.view.proofs.of_contents.Statement.{statement}
-use Rattle.view.proofs.of_contents.Tie as tie
+use Rattle.view_fields.proofs.of_contents.Statement.{statement}
+use Rattle.view_fields.proofs.of_contents.Tie as tie
 
 enum-known-contents : tie.Need-enum-known-contents
 enum-known-contents c = search needs

@@ -1,12 +1,12 @@
 -- `view::write_label` meets its contract. Assumes nothing.
 use mathlib.Core.Path.{refl}
 use native.Mathlib.Omega.{arith}
-use Rattle.view.specs.Layout.{littleEndian, labelField}
-use Rattle.view.proofs.Buffers.{first, last}
-use Rattle.view.proofs.Widths.{length-number}
+use Rattle.view_fields.specs.Fields.{littleEndian, labelField}
+use Rattle.view_fields.proofs.Buffers.{first, last}
+use Rattle.view_fields.proofs.Widths.{length-number}
 use borrow.Author.Needs.{needs}
-use Rattle.view.proofs.write_label.Statement.{statement}
-use Rattle.view.proofs.write_label.Tie as tie
+use Rattle.view_fields.proofs.write_label.Statement.{statement}
+use Rattle.view_fields.proofs.write_label.Tie as tie
 
 write-number-requires : tie.Need-write-number-requires
 write-number-requires c κs = search needs

@@ -1,12 +1,12 @@
 -- `view::write_value` meets its contract. Assumes nothing.
 use mathlib.Core.Path.{refl}
 use mathlib.Core.List.{[], _∷_}
-use Rattle.view.specs.Layout.{littleEndian}
-use Rattle.view.proofs.Buffers.{three}
-use Rattle.view.proofs.Widths.{length-number}
+use Rattle.view_fields.specs.Fields.{littleEndian}
+use Rattle.view_fields.proofs.Buffers.{three}
+use Rattle.view_fields.proofs.Widths.{length-number}
 use borrow.Author.Needs.{needs}
-use Rattle.view.proofs.write_value.Statement.{statement}
-use Rattle.view.proofs.write_value.Tie as tie
+use Rattle.view_fields.proofs.write_value.Statement.{statement}
+use Rattle.view_fields.proofs.write_value.Tie as tie
 
 write-pair-requires : tie.Need-write-pair-requires
 write-pair-requires c κs = search needs

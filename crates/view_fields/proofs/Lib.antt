@@ -1,0 +1,3 @@
+-- Lemmas for the proofs of the functions, here and in the crates above.
+pub mod Buffers
+pub mod Widths

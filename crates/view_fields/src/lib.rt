@@ -1,0 +1,200 @@
+// The fields of a view, written into a buffer that the caller lends: numbers, labels, values, the result and a record.
+use labels::Label;
+use model::Contents;
+use model::Datum;
+use model::Ending;
+use model::Kind;
+use model::Record;
+ghost use mathlib.Core.Path.{_≡_};
+ghost use mathlib.Core.List.{[], _∷_};
+ghost use Prim.Native.Nat.{_≤_};
+ghost use lib.ListN.{length, replicate};
+ghost use Rattle.view_fields.specs.Fields.{labelWidth, valueWidth, recordWidth, littleEndian, labelField, datumField, contentsField, endingNumber, resultField, kindByte, recordField};
+ghost use Rattle.view_fields.specs.Writing.{over, numbers, tripleField};
+
+// A value as a view has it: its kind, and two words.
+pub struct Triple {
+    pub kind: u8,
+    pub first: u64,
+    pub second: u64,
+}
+
+// ---- the widths and offsets of fields, in bytes
+
+// A 16-bit number and two of them, a word, a label, and a value.
+pub const NUMBER: usize = 2;
+
+const TWO_NUMBERS: usize = 2 * NUMBER;
+
+const WORD: usize = 8;
+
+pub const LABEL: usize = 2 * WORD;
+
+pub const VALUE: usize = 2 + 2 * WORD;
+
+// Of a value: its words behind the kind and a 0 byte.
+const FIRST: usize = 2;
+
+const SECOND: usize = FIRST + WORD;
+
+// Of a record: its label and its value behind the place and the kind, and its width.
+const RECORD_LABEL: usize = 2;
+
+const RECORD_VALUE: usize = RECORD_LABEL + LABEL;
+
+pub const RECORD: usize = RECORD_VALUE + VALUE;
+
+// ---- numbers, labels and values
+
+// Writes the lowest `width` bytes of `n`, little-endian.
+pub fn write_number(n: u64, width: usize, out: &mut [u8])
+    requires { ⌜ width ≤ length (now out) ⌝ }
+    ensures { λ _. ⌜ now (out .exit) ≡ over (littleEndian width n) (now (out .entry)) ⌝ }
+{
+    let mut rest = n;
+    let mut i = 0;
+    while i < width {
+        out[i] = (rest % 256) as u8;
+        rest = rest / 256;
+        i += 1;
+    }
+}
+
+// Three 16-bit numbers.
+pub fn write_numbers(a: u64, b: u64, c: u64, out: &mut [u8])
+    requires { ⌜ 6 ≤ length (now out) ⌝ }
+    ensures { λ _. ⌜ now (out .exit) ≡ over (numbers a b c) (now (out .entry)) ⌝ }
+{
+    write_number(a, NUMBER, out);
+    write_number(b, NUMBER, &mut out[NUMBER..]);
+    write_number(c, NUMBER, &mut out[TWO_NUMBERS..]);
+}
+
+pub fn write_zeros(count: usize, out: &mut [u8])
+    requires { ⌜ count ≤ length (now out) ⌝ }
+    ensures { λ _. ⌜ now (out .exit) ≡ over (replicate count 0) (now (out .entry)) ⌝ }
+{
+    let mut i = 0;
+    while i < count {
+        out[i] = 0;
+        i += 1;
+    }
+}
+
+pub fn write_pair(a: u8, b: u8, out: &mut [u8])
+    requires { ⌜ 2 ≤ length (now out) ⌝ }
+    ensures { λ _. ⌜ now (out .exit) ≡ over (a ∷ b ∷ []) (now (out .entry)) ⌝ }
+{
+    out[0] = a;
+    out[1] = b;
+}
+
+pub fn write_label(l: Label, out: &mut [u8])
+    requires { ⌜ labelWidth ≤ length (now out) ⌝ }
+    ensures { λ _. ⌜ now (out .exit) ≡ over (labelField l) (now (out .entry)) ⌝ }
+{
+    write_number(l.secrecy, WORD, out);
+    write_number(l.integrity, WORD, &mut out[WORD..]);
+}
+
+// A value: its kind, a 0 byte, two words.
+pub fn write_value(v: Triple, out: &mut [u8])
+    requires { ⌜ valueWidth ≤ length (now out) ⌝ }
+    ensures { λ _. ⌜ now (out .exit) ≡ over (tripleField v) (now (out .entry)) ⌝ }
+{
+    write_pair(v.kind, 0, out);
+    write_number(v.first, WORD, &mut out[FIRST..]);
+    write_number(v.second, WORD, &mut out[SECOND..]);
+}
+
+// The value that a datum is shown as.
+pub fn of_datum(d: Datum) -> Triple
+    ensures { λ r. ⌜ tripleField r ≡ datumField d ⌝ }
+{
+    match d {
+        Datum::Number(n) => Triple {
+            kind: 1,
+            first: n as u64,
+            second: 0,
+        },
+        Datum::Label(l) => Triple {
+            kind: 2,
+            first: l.secrecy,
+            second: l.integrity,
+        },
+        Datum::Handle(kind, p) => Triple {
+            kind: 3 + kind_byte(kind),
+            first: p as u64,
+            second: 0,
+        },
+    }
+}
+
+// The value that a record's contents are shown as.
+pub fn of_contents(contents: Contents) -> Triple
+    ensures { λ r. ⌜ tripleField r ≡ contentsField contents ⌝ }
+{
+    match contents {
+        Contents::Value(d) => of_datum(d),
+        Contents::Fault(code, number) => Triple {
+            kind: 5,
+            first: code as u64,
+            second: number as u64,
+        },
+    }
+}
+
+// ---- the ending
+
+pub fn ending_number(ending: Ending) -> u64
+    ensures { λ r. ⌜ r ≡ endingNumber ending ⌝ }
+{
+    match ending {
+        Ending::Result(_) => 1,
+        Ending::Fault(_, _) => 2,
+        Ending::Spent => 3,
+    }
+}
+
+// The value that a run's result is shown as: the fault, or none if spent.
+pub fn of_ending(ending: Ending) -> Triple
+    ensures { λ r. ⌜ tripleField r ≡ resultField ending ⌝ }
+{
+    match ending {
+        Ending::Result(d) => of_datum(d),
+        Ending::Fault(code, number) => Triple {
+            kind: 5,
+            first: code as u64,
+            second: number as u64,
+        },
+        Ending::Spent => Triple {
+            kind: 0,
+            first: 0,
+            second: 0,
+        },
+    }
+}
+
+// ---- records
+
+pub fn kind_byte(kind: Kind) -> u8
+    ensures { λ r. ⌜ r ≡ kindByte kind ⌝ }
+{
+    match kind {
+        Kind::Sealed => 0,
+        Kind::Reference => 1,
+    }
+}
+
+// Writes the record at place `p`.
+pub fn write_record(p: u8, r: Record, out: &mut [u8])
+    requires { ⌜ recordWidth ≤ length (now out) ⌝ }
+    ensures { λ _. ⌜ now (out .exit) ≡ over (recordField p r) (now (out .entry)) ⌝ }
+{
+    let kind = r.kind;
+    let label = r.label;
+    let contents = r.contents;
+    write_pair(p, kind_byte(kind), out);
+    write_label(label, &mut out[RECORD_LABEL..]);
+    write_value(of_contents(contents), &mut out[RECORD_VALUE..]);
+}
