@@ -82,28 +82,22 @@ fn cut_operands() -> Vec<Case> {
     every_opcode().flat_map(cut).collect()
 }
 
+/// An instruction whose operand is an index, of `count` things that the file has.
+fn indexed(name: &str, opcode: u8, (index, count): (u8, u8), file: fn(usize, Vec<u8>) -> Vec<u8>) -> Case {
+    let code = vec![opcode, index, END];
+    case(format!("{name} {index} of {count}"), Answer::unless(index < count, 7), file(count.into(), code))
+}
+
 fn label_indices() -> Vec<Case> {
-    let lab = |(index, labels): (u8, u8)| {
-        let code = vec![LAB, index, END];
-        case(
-            format!("LAB {index} of {labels}"),
-            Answer::unless(index < labels, 7),
-            file(labels.into(), 0, code),
-        )
-    };
-    [(0, 2), (1, 2), (2, 2), (255, 2), (2, 3), (3, 3), (31, 32), (32, 32)].map(lab).to_vec()
+    [(0, 2), (1, 2), (2, 2), (255, 2), (2, 3), (3, 3), (31, 32), (32, 32)]
+        .map(|index| indexed("LAB", LAB, index, |labels, code| file(labels, 0, code)))
+        .to_vec()
 }
 
 fn input_indices() -> Vec<Case> {
-    let input = |(index, records): (u8, u8)| {
-        let code = vec![INPUT, index, END];
-        case(
-            format!("INPUT {index} of {records}"),
-            Answer::unless(index < records, 7),
-            file(2, records.into(), code),
-        )
-    };
-    [(0, 0), (0, 1), (1, 1), (2, 1), (2, 3), (3, 3), (255, 3)].map(input).to_vec()
+    [(0, 0), (0, 1), (1, 1), (2, 1), (2, 3), (3, 3), (255, 3)]
+        .map(|index| indexed("INPUT", INPUT, index, |records, code| file(2, records, code)))
+        .to_vec()
 }
 
 fn locals() -> Vec<Case> {

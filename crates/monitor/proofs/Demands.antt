@@ -19,8 +19,8 @@ use Rattle.script_file.specs.Sections.{header}
 use Rattle.script_file.proofs.Tests.{lowest-most}
 use Rattle.script_file.proofs.Answers.{within-limits}
 use Rattle.view.specs.Reading.{Reading, refuse, viewed, fileView, reading}
-use Rattle.monitor.specs.Answers.{reads}
-use Rattle.monitor.specs.declared.Answer.{Answer}
+use Rattle.reading.specs.Answers.{reads}
+use Rattle.reading.specs.declared.Answer.{Answer}
 
 -- ── demand 1: total ──
 

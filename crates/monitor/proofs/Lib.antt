@@ -1,4 +1,2 @@
--- Laws that the proofs of the open calls cite, and the demands on them.
-pub mod Parts
-pub mod Calls
+-- The demands on the open calls.
 pub mod Demands

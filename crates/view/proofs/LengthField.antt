@@ -14,7 +14,7 @@ use Rattle.model.specs.declared.Slot.the-variants.{Empty, Full}
 use Rattle.model.specs.declared.Ending.{Ending}
 use Rattle.view_fields.specs.Fields.{littleEndian}
 use Rattle.view.specs.Layout.{shown, recordFields, one, recordsShown, recordsAt, counts, final, viewLength, view}
-use Rattle.view.proofs.Widths.{length-counts, length-view}
+use Rattle.view.proofs.Widths.{one-small, length-counts, length-view}
 
 -- behind the first three numbers
 behind : (Reads : Label → Bool) (s : ℕ) (e : Ending) (a : Account) (bs : List ℕ) (i : ℕ) → byte (counts Reads s e a ++ bs) (6 + i) ≡ byte bs i
@@ -44,15 +44,11 @@ length-field Reads s o lt =
     ∙ ap₂ (λ (x y : ℕ). x + 256 * y) (behind Reads s (o .ending) (o .account) (tail Reads o) 4) (behind Reads s (o .ending) (o .account) (tail Reads o) 5)
     ∙ small (viewLength Reads (o .store)) lt ∙ sym (length-view Reads s o)
 
-one-most : (x : Slot) → one x ≤ 1
-one-most Empty = omega arith
-one-most (Full x) = omega arith
-
 -- no more records are shown than there are places
 pub shown-most : (Reads : Label → Bool) (σ : Store) → recordsShown Reads σ ≤ length σ
 unfolding recordsShown
 shown-most Reads [] = omega arith
-shown-most Reads (x ∷ σ) = omega (arith, one-most (shown Reads x), shown-most Reads σ)
+shown-most Reads (x ∷ σ) = omega (arith, one-small (shown Reads x), shown-most Reads σ)
 
 pub length-field-places : (Reads : Label → Bool) (s : ℕ) (o : Outcome) → length (o .store) ≤ 256
     → u16 (view Reads s o) 10 ≡ length (view Reads s o)

@@ -20,10 +20,6 @@ use Rattle.view_fields.specs.Writing.{over}
 use Rattle.view_fields.proofs.Buffers.{Writing, start, piece, ends, part, back}
 use Rattle.view_fields.proofs.Widths.{length-record}
 
-pub one-small : (x : Slot) → one x ≤ 1
-one-small Empty = omega arith
-one-small (Full r) = omega arith
-
 module _ (Reads : Label → Bool) (l : List ℕ) where
   here : (p : ℕ) → p < places → drop p (slots l) ≡ at (slots l) p ∷ drop (p + 1) (slots l)
   here p h =

@@ -17,6 +17,10 @@ use Rattle.view.specs.Layout.{shown, slotField, recordFields, one, recor
 use Rattle.view.specs.Writing.{finished}
 use Rattle.view.specs.declared.Finish.{Finish}
 
+pub one-small : (x : Slot) → one x ≤ 1
+one-small Empty = omega arith
+one-small (Full r) = omega arith
+
 length-slot : (p : ℕ) (x : Slot) → length (slotField p x) ≡ recordWidth * one x
 unfolding slotField
 length-slot p Empty = refl

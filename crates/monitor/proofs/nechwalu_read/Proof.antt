@@ -1,9 +1,9 @@
 -- `monitor::nechwalu_read` meets its contract.
 use mathlib.Core.Path.{sym, ap, _∙_}
-use Rattle.monitor.specs.Answers.{reads}
-use Rattle.monitor.specs.declared.Answer.{Answer}
-use Rattle.monitor.specs.declared.Answer.the-variants.{Refused, Viewed}
-use Rattle.monitor.proofs.Calls.{call-answered}
+use Rattle.reading.specs.Answers.{reads}
+use Rattle.reading.specs.declared.Answer.{Answer}
+use Rattle.reading.specs.declared.Answer.the-variants.{Refused, Viewed}
+use Rattle.reading.proofs.Calls.{call-answered}
 use borrow.Author.Needs.{needs}
 use Rattle.monitor.proofs.nechwalu_read.Statement.{statement}
 use Rattle.monitor.proofs.nechwalu_read.Tie as tie

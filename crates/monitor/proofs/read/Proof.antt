@@ -1,7 +1,7 @@
 -- `monitor::read` meets its contract.
 use mathlib.Core.Path.{refl, sym, _∙_}
 use lib.ListN.{replicate}
-use Rattle.monitor.proofs.Calls.{read-stopped, read-loads, length-words}
+use Rattle.reading.proofs.Calls.{read-stopped, read-loads, length-words}
 use borrow.Author.Needs.{needs}
 use Rattle.monitor.proofs.read.Statement.{statement}
 use Rattle.monitor.proofs.read.Tie as tie

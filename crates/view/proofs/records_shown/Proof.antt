@@ -6,7 +6,8 @@ use lib.ListN.{drop}
 use Rattle.store.specs.Slots.{slots}
 use Rattle.view.specs.Layout.{one, shown, recordsShown}
 use Rattle.view.specs.Writing.{reads as reading}
-use Rattle.view.proofs.Places.{one-small, count-here, count-nothing}
+use Rattle.view.proofs.Widths.{one-small}
+use Rattle.view.proofs.Places.{count-here, count-nothing}
 use borrow.Author.Needs.{needs}
 use Rattle.view.proofs.records_shown.Statement.{statement}
 use Rattle.view.proofs.records_shown.Tie as tie

@@ -1,10 +1,10 @@
 -- `monitor::run_file` meets its contract.
 use mathlib.Core.Path.{_∙_}
 use native.Mathlib.Omega.{arith}
-use Rattle.monitor.proofs.Calls.{records-first, code-within, records-short, code-short, inputs-fit, places-fit, run-is, finishes}
+use Rattle.reading.proofs.Calls.{records-first, code-within, records-short, code-short, inputs-fit, places-fit, run-is, finishes}
 use borrow.Author.Needs.{needs}
-use Rattle.monitor.proofs.run_file.Statement.{statement}
-use Rattle.monitor.proofs.run_file.Tie as tie
+use Rattle.reading.proofs.run_file.Statement.{statement}
+use Rattle.reading.proofs.run_file.Tie as tie
 
 label-at-requires : tie.Need-label-at-requires
 label-at-requires c κs = search needs

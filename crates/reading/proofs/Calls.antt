@@ -36,10 +36,10 @@ use Rattle.view_fields.specs.Writing.{over}
 use Rattle.view.specs.Writing.{reads as readerOf, finished}
 use Rattle.view.specs.declared.Finish.{Finish}
 use Rattle.view.proofs.Widths.{view-finished}
-use Rattle.monitor.specs.Answers.{answerOf, reads, codeOf, Loads, Leaves, Finishes}
-use Rattle.monitor.specs.declared.Answer.{Answer}
-use Rattle.monitor.specs.Placing.{noRecords}
-use Rattle.monitor.proofs.Parts.{labels-are, records-length, records-counted, code-length, program-is}
+use Rattle.reading.specs.Answers.{answerOf, reads, codeOf, Loads, Leaves, Finishes}
+use Rattle.reading.specs.declared.Answer.{Answer}
+use Rattle.reading.specs.Placing.{noRecords}
+use Rattle.reading.proofs.Parts.{labels-are, records-length, records-counted, code-length, program-is}
 
 -- ── the view and the buffer ──
 

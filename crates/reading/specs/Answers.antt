@@ -1,4 +1,4 @@
--- The answers of the open calls, and what their parts hand to each other.
+-- The answers of a read, and what its parts hand to each other.
 use mathlib.Core.List.{List}
 use mathlib.Core.Path.{_≡_}
 use Prim.Native.Nat.{ℕ}
@@ -11,8 +11,8 @@ use Rattle.machine.specs.State.{endingOf}
 use Rattle.machine.specs.declared.State.{State}
 use Rattle.view.specs.Reading.{Answer as Answered, refused, viewed, Reading, reading}
 use Rattle.view.specs.declared.Finish.{Finish}
-use Rattle.monitor.specs.declared.Answer.{Answer}
-use Rattle.monitor.specs.declared.Answer.the-variants.{Refused, Viewed}
+use Rattle.reading.specs.declared.Answer.{Answer}
+use Rattle.reading.specs.declared.Answer.the-variants.{Refused, Viewed}
 
 -- the number of a refusal, or the view's length
 abbrev pub answerOf : Answer → Answered
