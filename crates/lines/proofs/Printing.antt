@@ -1,7 +1,7 @@
 -- The fields of a line: their lengths, and what is left of them as a line is written. Assumes nothing.
 use mathlib.Core.Path.{_≡_, refl, sym, ap, ap₂, _∙_}
 use mathlib.Core.List.{List, [], _∷_, _++_, append-assoc}
-use Prim.Native.Nat.{ℕ, zero, suc, _+_, _-_, _*_, _≤_, _<_, _/_, _%_}
+use Prim.Native.Nat.{ℕ, zero, suc, _+_, _*_, _≤_, _<_, _/_, _%_}
 use native.Mathlib.Numerals.{add-one}
 use native.Mathlib.Omega.{arith}
 use lib.ListN.{length, getD, take, drop, length-append, length-drop}
@@ -64,11 +64,11 @@ spaced-append (x ∷ xs) ys bs =
 
 -- the field at j, of which n bytes are there
 pub spaced-here : (ws rest : List ℕ) (j n : ℕ) → j < length ws → Cut (getD ws j 0) rest n
-    → spaced (drop j ws) rest ≡ (0x20 ∷ hex (take n rest)) ++ spaced (drop (j + 1) ws) (drop n rest)
+    → spaced (drop j ws) rest ≡ (0x20 ∷ hex (take n rest)) ++ spaced (drop (j + 1) ws) (part n rest)
 unfolding spaced
 spaced-here ws rest j n h k =
     ap (λ (v : List ℕ). spaced v rest) (drop-cons ws j 0 h ∙ ap (λ (i : ℕ). getD ws j 0 ∷ drop i ws) (sym (add-one j)))
-    ∙ ap₂ (λ (u v : List ℕ). (0x20 ∷ hex u) ++ spaced (drop (j + 1) ws) v) (sym (k .taken)) (sym (k .dropped))
+    ∙ ap₂ (λ (u v : List ℕ). (0x20 ∷ hex u) ++ spaced (drop (j + 1) ws) v) (sym (k .taken)) (sym (part-drop n rest ∙ k .dropped))
 
 pub length-field : (w : ℕ) (rest : List ℕ) (n : ℕ) → Cut w rest n → length (0x20 ∷ hex (take n rest)) ≡ 1 + 2 * n
 length-field w rest n k = let e = length-hex (take n rest) in let f = length-take-le n rest (k .within) in omega arith
@@ -106,7 +106,7 @@ line-parts v k m c d =
 pub first-field : (v b b′ : List ℕ) (k m n : ℕ) → Cut 2 v k → Cut 62 v m → n ≡ u16 v 6 → length (line v) ≤ length b → b′ ≡ over (hex (take k v)) b
     → Writing (line v) (spaced behindFirst (part k v) ++ (spaced (widths n) (part m v) ++ (0x0A ∷ []))) b b′ (2 * k)
 first-field v b b′ k m n c d e h q =
-    first (line v) (hex (take k v)) _ b whole (2 * k) digits (let f = ap length whole ∙ length-append (hex (take k v)) _ in omega (arith, digits)) b′ q
+    first (hex (take k v)) whole digits (let f = ap length whole ∙ length-append (hex (take k v)) _ in omega (arith, digits)) q
   where
     whole : line v ≡ hex (take k v) ++ (spaced behindFirst (part k v) ++ (spaced (widths n) (part m v) ++ (0x0A ∷ [])))
     whole = line-parts v k m c d ∙ rw (part-drop k v, part-drop m v, e)

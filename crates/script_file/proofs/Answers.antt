@@ -41,6 +41,9 @@ pub file-header : (bs : List ℕ) (h : Header) → File h ≡ loaded bs → h �
 unfolding loaded
 file-header bs h e = let same : File h ≡ File (header bs) = e ∙ ap (λ (n : ℕ). answer n (header bs)) (file-number bs h e) in cc
 
+abbrev pub checks : List ℕ → List Bool
+checks bs = passes1 bs ∷ passes2 bs ∷ passes3 bs ∷ passes4 bs ∷ passes5 bs ∷ passes6 bs ∷ passes7 bs ∷ []
+
 -- A file that is not refused passes each check.
 pub record Accepted (bs : List ℕ) : Type 0 where
   pub size : passes1 bs ≡ true
@@ -54,7 +57,7 @@ pub record Accepted (bs : List ℕ) : Type 0 where
 pub accepted : (bs : List ℕ) → refusal bs ≡ 0 → Accepted bs
 unfolding refusal
 accepted bs none =
-    let p = lowest-each 0 (passes1 bs ∷ passes2 bs ∷ passes3 bs ∷ passes4 bs ∷ passes5 bs ∷ passes6 bs ∷ passes7 bs ∷ []) none in
+    let p = lowest-each 0 (checks bs) none in
     record {
       size = p .0;
       counts = p .1 .0;

@@ -26,18 +26,18 @@ abbrev pub codeIn : Header → List ℕ → List ℕ
 codeIn h bs = take (length bs - h .code .offset) (drop (h .code .offset) bs)
 
 module _ (bs : List ℕ) where
-  pub finds1 : (b : Bool) → sizeOk (length bs) ≡ b → passes1 bs ≡ b
+  pub finds1 : {b : Bool} → sizeOk (length bs) ≡ b → passes1 bs ≡ b
   unfolding passes1
-  finds1 b e = e
+  finds1 e = e
 
   module _ (h : Header) (is : h ≡ header bs) where
-    pub finds2 : (b : Bool) → countsOk h ≡ b → passes2 bs ≡ b
+    pub finds2 : {b : Bool} → countsOk h ≡ b → passes2 bs ≡ b
     unfolding passes2
-    finds2 b e = ap countsOk (sym is) ∙ e
+    finds2 e = ap countsOk (sym is) ∙ e
 
-    pub finds3 : (b : Bool) → offsetsOk h (length bs) ≡ b → passes3 bs ≡ b
+    pub finds3 : {b : Bool} → offsetsOk h (length bs) ≡ b → passes3 bs ≡ b
     unfolding passes3
-    finds3 b e = ap (λ (g : Header). offsetsOk g (length bs)) (sym is) ∙ e
+    finds3 e = ap (λ (g : Header). offsetsOk g (length bs)) (sym is) ∙ e
 
     pub file-table : (t : Table) → t ≡ tableOf (readLabels (h .labels .count) (take (h .records .offset - 16) (drop 16 bs))) → t ≡ tableOf (fileLabels bs)
     unfolding fileLabels labelBytes
@@ -54,27 +54,27 @@ module _ (bs : List ℕ) where
     unfolding codeBytes
     code-in = part-to-end bs (h .code .offset) ∙ ap (λ (g : Header). drop (g .code .offset) bs) is
 
-    pub finds6 : (b : Bool) → h .code .offset ≡ h .records .offset + 6 * h .records .count
+    pub finds6 : {b : Bool} → h .code .offset ≡ h .records .offset + 6 * h .records .count
         → recordsOk (h .labels .count) (recordsIn h bs) (h .records .count) 0 ≡ b → passes6 bs ≡ b
     unfolding passes6
-    finds6 b e r =
+    finds6 e r =
         ap₂ (λ (g : Header) (rs : List ℕ). recordsOk (g .labels .count) rs (g .records .count) 0) (sym is) (sym (records-in e)) ∙ r
 
-    pub finds7 : (b : Bool) → codeOk (h .labels .count) (h .records .count) (codeIn h bs) ≡ b → passes7 bs ≡ b
+    pub finds7 : {b : Bool} → codeOk (h .labels .count) (h .records .count) (codeIn h bs) ≡ b → passes7 bs ≡ b
     unfolding passes7
-    finds7 b r = ap₂ (λ (g : Header) (code : List ℕ). codeOk (g .labels .count) (g .records .count) code) (sym is) (sym code-in) ∙ r
+    finds7 r = ap₂ (λ (g : Header) (code : List ℕ). codeOk (g .labels .count) (g .records .count) code) (sym is) (sym code-in) ∙ r
 
   module _ (t : Table) (is : t ≡ tableOf (fileLabels bs)) where
-    pub finds4 : (b : Bool) → t .whole ≡ b → passes4 bs ≡ b
+    pub finds4 : {b : Bool} → t .whole ≡ b → passes4 bs ≡ b
     unfolding passes4
-    finds4 b e = sym (ap (λ (u : Table). u .whole) is) ∙ e
+    finds4 e = sym (ap (λ (u : Table). u .whole) is) ∙ e
 
     label-in : (i : ℕ) → labelIn (labelWords (orNone (fileLabels bs))) i ≡ labelAt bs i → labelAt bs i ≡ labelIn (t .words) i
     label-in i e = sym e ∙ ap (λ (u : Table). labelIn (u .words) i) (sym is)
 
-    pub finds5 : (b : Bool) → flows (labelIn (t .words) 0) (labelIn (t .words) 1) ≡ b → passes5 bs ≡ b
+    pub finds5 : {b : Bool} → flows (labelIn (t .words) 0) (labelIn (t .words) 1) ≡ b → passes5 bs ≡ b
     unfolding passes5 labelAt
-    finds5 b e =
+    finds5 e =
         ap₂ flows
         (label-in 0 (words-hold (orNone (fileLabels bs)) 0 (omega arith)))
         (label-in 1 (words-hold (orNone (fileLabels bs)) 1 (omega arith)))

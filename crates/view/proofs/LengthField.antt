@@ -9,17 +9,15 @@ use lib.Seq.{getD-append-add}
 use Rattle.labels.specs.declared.Label.{Label}
 use Rattle.model.specs.State.{Account, Store, Outcome}
 use Rattle.model.specs.Decoding.{byte, u16}
-use Rattle.model.specs.declared.Slot.{Slot}
-use Rattle.model.specs.declared.Slot.the-variants.{Empty, Full}
 use Rattle.model.specs.declared.Ending.{Ending}
 use Rattle.view_fields.specs.Fields.{littleEndian}
-use Rattle.view.specs.Layout.{shown, recordFields, one, recordsShown, recordsAt, counts, final, viewLength, view}
+use Rattle.view.specs.Layout.{shown, recordFields, recordsShown, recordsAt, counts, final, viewLength, view}
 use Rattle.view.proofs.Widths.{one-small, length-counts, length-view}
 
 -- behind the first three numbers
 behind : (Reads : Label → Bool) (s : ℕ) (e : Ending) (a : Account) (bs : List ℕ) (i : ℕ) → byte (counts Reads s e a ++ bs) (6 + i) ≡ byte bs i
 behind Reads s e a bs i =
-    ap (λ (n : ℕ). byte (counts Reads s e a ++ bs) (n + i)) (sym (length-counts Reads s e a)) ∙ getD-append-add (counts Reads s e a) bs i 0
+    ap (λ (n : ℕ). byte (counts Reads s e a ++ bs) (n + i)) (sym (length-counts Reads e a s)) ∙ getD-append-add (counts Reads s e a) bs i 0
 
 small : (n : ℕ) → n < 65536 → n % 256 + 256 * (n / 256 % 256) ≡ n
 small n lt = omega arith

@@ -2,7 +2,7 @@
 use mathlib.Core.Path.{_≡_, refl, sym, ap, _∙_}
 use mathlib.Core.Bool.{Bool}
 use mathlib.Core.List.{List, [], _∷_, _++_}
-use Prim.Native.Nat.{ℕ, _+_, _-_, _*_, _≤_, _<_}
+use Prim.Native.Nat.{ℕ, _+_, _*_, _≤_, _<_}
 use native.Mathlib.Numerals.{add-one}
 use native.Mathlib.Nat.{zero-add}
 use native.Mathlib.Omega.{arith}
@@ -13,7 +13,8 @@ use Rattle.model.specs.State.{at}
 use Rattle.model.specs.declared.Record.{Record}
 use Rattle.model.specs.declared.Slot.{Slot}
 use Rattle.model.specs.declared.Slot.the-variants.{Empty, Full}
-use Rattle.store.specs.Slots.{places, slots, length-slots}
+use Rattle.store.specs.Slots.{places, slots}
+use Rattle.store.proofs.Places.{length-slots}
 use Rattle.view_fields.specs.Fields.{recordWidth, recordField}
 use Rattle.view.specs.Layout.{shown, slotField, recordFields, one, recordsShown}
 use Rattle.view_fields.specs.Writing.{over}
@@ -52,7 +53,7 @@ module _ (Reads : Label → Bool) (l : List ℕ) where
     pub writing : Writing (recordFields Reads 0 (slots l)) (recordFields Reads p (drop p (slots l))) b₀ b i
 
   pub none-yet : (b : List ℕ) → recordWidth * recordsShown Reads (slots l) ≤ length b → Written b b 0 0
-  none-yet b h = record { place = omega arith; room = omega arith; writing = start _ _ b refl }
+  none-yet b h = record { place = omega arith; room = omega arith; writing = start refl }
 
   pub all-written : {b₀ b : List ℕ} {i p : ℕ} → Written b₀ b i p → places ≤ p → b ≡ over (recordFields Reads 0 (slots l)) b₀
   unfolding recordFields
@@ -67,17 +68,16 @@ module _ (Reads : Label → Bool) (l : List ℕ) where
         omega (arith, w .room)
 
     -- the record at p is shown, and written over the part from i on
-    pub written-here : (r : Record) → shown Reads (at (slots l) p) ≡ Full r → (ys : List ℕ) → ys ≡ over (recordField p r) (part i b)
+    pub written-here : (r : Record) → shown Reads (at (slots l) p) ≡ Full r → {ys : List ℕ} → ys ≡ over (recordField p r) (part i b)
         → Written b₀ (back i b ys) (i + recordWidth) (p + 1)
     unfolding slotField
-    written-here r e ys q =
+    written-here r e q =
         record {
           place = omega arith;
           room = room-here r e;
           writing =
-              piece (w .writing) (recordField p r) (recordFields Reads (p + 1) (drop (p + 1) (slots l)))
-              (fields-here p h ∙ ap (λ (x : Slot). slotField p x ++ recordFields Reads (p + 1) (drop (p + 1) (slots l))) e) recordWidth (length-record p r)
-              (let f = room-here r e in omega arith) ys q;
+              piece (w .writing) (recordField p r) (fields-here p h ∙ ap (λ (x : Slot). slotField p x ++ recordFields Reads (p + 1) (drop (p + 1) (slots l))) e)
+              (length-record p r) (let f = room-here r e in omega arith) q;
         }
 
     -- nothing is shown of place p

@@ -1,18 +1,18 @@
 -- How many bytes each part of a view has, and the view as a whole. Assumes nothing.
-use mathlib.Core.Path.{_≡_, refl, ap, ap₂, _∙_}
+use mathlib.Core.Path.{_≡_, refl, ap, _∙_}
 use mathlib.Core.Bool.{Bool, true, false}
-use mathlib.Core.List.{List, [], _∷_, _++_, append-assoc}
-use Prim.Native.Nat.{ℕ, zero, suc, _+_, _-_, _*_, _≤_}
+use mathlib.Core.List.{[], _∷_, _++_, append-assoc}
+use Prim.Native.Nat.{ℕ, suc, _+_, _-_, _*_, _≤_}
 use native.Mathlib.Omega.{arith}
-use lib.ListN.{length, length-append, replicate}
+use lib.ListN.{length, replicate}
 use Rattle.labels.specs.declared.Label.{Label}
 use Rattle.model.specs.State.{Account, Store, Outcome}
 use Rattle.model.specs.declared.Slot.{Slot}
 use Rattle.model.specs.declared.Slot.the-variants.{Empty, Full}
 use Rattle.model.specs.declared.Ending.{Ending}
-use Rattle.view_fields.specs.Fields.{labelWidth, valueWidth, recordWidth, littleEndian, labelField, endingNumber, resultField, recordField}
+use Rattle.view_fields.specs.Fields.{recordWidth, labelField, endingNumber, resultField}
 use Rattle.view_fields.specs.Writing.{numbers}
-use Rattle.view_fields.proofs.Widths.{length-two, length-number, length-numbers, length-label, length-result, length-record}
+use Rattle.view_fields.proofs.Widths.{length-two, length-numbers, length-label, length-result, length-record}
 use Rattle.view.specs.Layout.{shown, slotField, recordFields, one, recordsShown, counts, final, viewLength, view}
 use Rattle.view.specs.Writing.{finished}
 use Rattle.view.specs.declared.Finish.{Finish}
@@ -38,15 +38,14 @@ length-records Reads p (x ∷ σ) =
 
 -- ── what is shown of the ending, or is 0 ──
 
-module _ (Reads : Label → Bool) (s : ℕ) (e : Ending) (a : Account) where
-  pub counts-shown : Reads (a .label) ≡ true
-      → counts Reads s e a ≡ numbers (endingNumber e) (s - a .steps) (a .next)
+module _ (Reads : Label → Bool) (e : Ending) (a : Account) where
+  pub counts-shown : (s : ℕ) → Reads (a .label) ≡ true → counts Reads s e a ≡ numbers (endingNumber e) (s - a .steps) (a .next)
   unfolding counts numbers
-  counts-shown h = rw (h, append-assoc)
+  counts-shown s h = rw (h, append-assoc)
 
-  pub counts-hidden : Reads (a .label) ≡ false → counts Reads s e a ≡ replicate 6 0
+  pub counts-hidden : (s : ℕ) → Reads (a .label) ≡ false → counts Reads s e a ≡ replicate 6 0
   unfolding counts
-  counts-hidden h = rw h
+  counts-hidden s h = rw h
 
   pub final-shown : Reads (a .label) ≡ true → final Reads e a ≡ resultField e ++ (labelField (a .label) ++ labelField (a .clearance))
   unfolding final
@@ -56,12 +55,12 @@ module _ (Reads : Label → Bool) (s : ℕ) (e : Ending) (a : Account) where
   unfolding final
   final-hidden h = rw h
 
-  pub length-counts : length (counts Reads s e a) ≡ 6
-  length-counts = go (Reads (a .label)) refl
+  pub length-counts : (s : ℕ) → length (counts Reads s e a) ≡ 6
+  length-counts s = go (Reads (a .label)) refl
     where
       go : (b : Bool) → Reads (a .label) ≡ b → length (counts Reads s e a) ≡ 6
-      go true h = ap length (counts-shown h) ∙ length-numbers (endingNumber e) (s - a .steps) (a .next)
-      go false h = ap length (counts-hidden h)
+      go true h = ap length (counts-shown s h) ∙ length-numbers (endingNumber e) (s - a .steps) (a .next)
+      go false h = ap length (counts-hidden s h)
 
   pub length-final : length (final Reads e a) ≡ 50
   length-final = go (Reads (a .label)) refl
@@ -87,10 +86,10 @@ pub length-view : (Reads : Label → Bool) (s : ℕ) (o : Outcome) → length (v
 unfolding viewLength
 length-view Reads s o =
     let n = recordsShown Reads (o .store) in
-    let records = length-two (final Reads (o .ending) (o .account)) _ 50 _ (length-final Reads s (o .ending) (o .account)) (length-records Reads 0 (o .store)) in
+    let records = length-two (final Reads (o .ending) (o .account)) _ 50 _ (length-final Reads (o .ending) (o .account)) (length-records Reads 0 (o .store)) in
     let behind = length-two (numbers n 62 (62 + 36 * n)) _ 6 _ (length-numbers n 62 (62 + 36 * n)) records in
     ap length (view-parts Reads s o)
-    ∙ length-two (counts Reads s (o .ending) (o .account)) _ 6 _ (length-counts Reads s (o .ending) (o .account)) behind
+    ∙ length-two (counts Reads s (o .ending) (o .account)) _ 6 _ (length-counts Reads (o .ending) (o .account) s) behind
     ∙ sum n
   where
     sum : (n : ℕ) → 6 + (6 + (50 + 36 * n)) ≡ 62 + 36 * n

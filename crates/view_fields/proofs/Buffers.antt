@@ -26,8 +26,8 @@ back i b ys = take i b ++ (ys ++ drop (length b - i) (drop i b))
 pub part-drop : (i : ℕ) (b : List ℕ) → part i b ≡ drop i b
 part-drop i b = take-all (length b - i) (drop i b) (rw length-drop (omega arith))
 
-pub start : (whole left b : List ℕ) → left ≡ whole → Writing whole left b b 0
-start whole left b e = record { room = omega arith; same = refl; count = let f = ap length e in omega arith; rest = ap (λ (v : List ℕ). over v b) (sym e) }
+pub start : {whole left b : List ℕ} → left ≡ whole → Writing whole left b b 0
+start {b = b} e = record { room = omega arith; same = refl; count = let f = ap length e in omega arith; rest = ap (λ (v : List ℕ). over v b) (sym e) }
 
 pub ends-at : {whole left b₀ b : List ℕ} {i : ℕ} → Writing whole left b₀ b i → left ≡ [] → i ≡ length whole
 ends-at {left = left} w e = let f : length left ≡ 0 = ap length e in omega (arith, w .count)
@@ -78,9 +78,9 @@ module _ {whole left b₀ b : List ℕ} {i : ℕ} (w : Writing whole left b₀ b
           ∙ sym (joined ∙ append-assoc (take i b) xs (l ++ drop (length l) far))
 
   -- one byte is stored
-  pub byte : (x : ℕ) (l : List ℕ) → left ≡ x ∷ l → i < length b₀ → Writing whole l b₀ (set b i x) (i + 1)
+  pub byte : {x : ℕ} {l : List ℕ} → left ≡ x ∷ l → i < length b₀ → Writing whole l b₀ (set b i x) (i + 1)
   unfolding over
-  byte x l d h =
+  byte {x} {l} d h =
       more (x ∷ []) l d 1 refl (omega arith) (set b i x)
       (set-split b i x (omega (arith, w .same)) ∙ ap (λ (z : List ℕ). take i b ++ (x ∷ z)) (ap (λ (k : ℕ). drop k b) (sym (add-one i)) ∙ sym (drop-drop 1 i b)))
 
@@ -88,13 +88,13 @@ module _ {whole left b₀ b : List ℕ} {i : ℕ} (w : Writing whole left b₀ b
   room-for n h = simp (length-take, length-drop) (omega (arith, w .same))
 
   -- there is room for the next n bytes
-  pub room-next : length whole ≤ length b₀ → (xs l : List ℕ) → left ≡ xs ++ l → (n : ℕ) → length xs ≡ n → i + n ≤ length b₀
-  room-next h xs l d n e = let f = ap length d ∙ length-append xs l in omega (arith, w .count)
+  pub room-next : length whole ≤ length b₀ → (xs l : List ℕ) → left ≡ xs ++ l → {n : ℕ} → length xs ≡ n → i + n ≤ length b₀
+  room-next h xs l d e = let f = ap length d ∙ length-append xs l in omega (arith, w .count)
 
   -- the part from i on is lent, and comes back as ys, with xs over its start
-  pub piece : (xs l : List ℕ) → left ≡ xs ++ l → (n : ℕ) → length xs ≡ n → i + n ≤ length b₀
-      → (ys : List ℕ) → ys ≡ over xs (part i b) → Writing whole l b₀ (back i b ys) (i + n)
-  piece xs l d n e h ys r =
+  pub piece : (xs : List ℕ) {l : List ℕ} → left ≡ xs ++ l → {n : ℕ} → length xs ≡ n → i + n ≤ length b₀
+      → {ys : List ℕ} → ys ≡ over xs (part i b) → Writing whole l b₀ (back i b ys) (i + n)
+  piece xs {l} d {n} e h {ys} r =
       more xs l d n e h (back i b ys)
       (ap₂ (λ (y z : List ℕ). take i b ++ (y ++ z)) (r ∙ ap (over xs) (part-drop i b)) none ∙ ap (λ (y : List ℕ). take i b ++ y) (append-nil _))
     where
@@ -102,27 +102,39 @@ module _ {whole left b₀ b : List ℕ} {i : ℕ} (w : Writing whole left b₀ b
       none = drop-of-length-le (drop i b) {i = length b - i} (let z = length-drop i b in omega arith)
 
   -- the same where there is room for the whole
-  pub next : length whole ≤ length b₀ → (xs l : List ℕ) → left ≡ xs ++ l → (n : ℕ) → n ≡ length xs → (ys : List ℕ) → ys ≡ over xs (part i b)
+  pub next : length whole ≤ length b₀ → (xs : List ℕ) {l : List ℕ} → left ≡ xs ++ l → {n : ℕ} → n ≡ length xs → {ys : List ℕ} → ys ≡ over xs (part i b)
       → Writing whole l b₀ (back i b ys) (i + n)
-  next h xs l d n e ys r = piece xs l d n (sym e) (room-next h xs l d n (sym e)) ys r
+  next h xs {l} d e r = piece xs d (sym e) (room-next h xs l d (sym e)) r
 
   pub room-for-next : length whole ≤ length b₀ → (xs l : List ℕ) → left ≡ xs ++ l → length xs ≤ length (part i b)
-  room-for-next h xs l d = room-for (length xs) (room-next h xs l d (length xs) refl)
+  room-for-next h xs l d = room-for (length xs) (room-next h xs l d refl)
 
   -- the same of the last piece
-  pub last : (n : ℕ) → length left ≡ n → i + n ≤ length b₀ → (ys : List ℕ) → ys ≡ over left (part i b) → back i b ys ≡ over whole b₀
-  last n e h ys r = ends (piece left [] (sym (append-nil left)) n e h ys r) refl
+  pub last : {n : ℕ} → length left ≡ n → i + n ≤ length b₀ → {ys : List ℕ} → ys ≡ over left (part i b) → back i b ys ≡ over whole b₀
+  last e h r = ends (piece left (sym (append-nil left)) e h r) refl
 
 -- the first piece: the whole buffer is lent
-pub first : (whole xs l b : List ℕ) → whole ≡ xs ++ l → (n : ℕ) → length xs ≡ n → n ≤ length b
-    → (b′ : List ℕ) → b′ ≡ over xs b → Writing whole l b b′ n
-first whole xs l b d n e h b′ q = rw zero-add at (more (start whole whole b refl) xs l d n e (omega arith) b′ q)
+pub first : {whole l b : List ℕ} (xs : List ℕ) → whole ≡ xs ++ l → {n : ℕ} → length xs ≡ n → n ≤ length b → {b′ : List ℕ} → b′ ≡ over xs b → Writing whole l b b′ n
+first {whole} {l} {b} xs d {n} e h {b′} q = rw zero-add at (more (start {whole = whole} {b = b} refl) xs l d n e (omega arith) b′ q)
 
--- Three pieces, one behind the other: the first into the whole buffer, each other into the part behind the one before.
-pub three : (xs ys zs b : List ℕ) (k m n : ℕ) → length xs ≡ k → length ys ≡ m → length zs ≡ n → k + m + n ≤ length b
-    → (b₁ : List ℕ) → b₁ ≡ over xs b → (b₂ : List ℕ) → b₂ ≡ over ys (part k b₁) → (b₃ : List ℕ) → b₃ ≡ over zs (part (k + m) (back k b₁ b₂))
+-- Two pieces, one behind the other: the first into the whole buffer, the other into the part behind it.
+pub two : (xs ys b : List ℕ) {k m : ℕ} → length xs ≡ k → length ys ≡ m → k + m ≤ length b
+    → {b₁ : List ℕ} → b₁ ≡ over xs b → {b₂ : List ℕ} → b₂ ≡ over ys (part k b₁) → back k b₁ b₂ ≡ over (xs ++ ys) b
+two xs ys b ex ey h e₁ e₂ = last (first {whole = xs ++ ys} {l = ys} xs refl ex (omega arith) e₁) ey h e₂
+
+-- three pieces likewise
+pub three : (xs ys zs b : List ℕ) {k m n : ℕ} → length xs ≡ k → length ys ≡ m → length zs ≡ n → k + m + n ≤ length b
+    → {b₁ : List ℕ} → b₁ ≡ over xs b → {b₂ : List ℕ} → b₂ ≡ over ys (part k b₁) → {b₃ : List ℕ} → b₃ ≡ over zs (part (k + m) (back k b₁ b₂))
     → back (k + m) (back k b₁ b₂) b₃ ≡ over (xs ++ (ys ++ zs)) b
-three xs ys zs b k m n ex ey ez h b₁ e₁ b₂ e₂ b₃ e₃ =
-    let one = first (xs ++ (ys ++ zs)) xs (ys ++ zs) b refl k ex (omega arith) b₁ e₁ in
-    let two = piece one ys zs refl m ey (omega arith) b₂ e₂ in
-    last two n ez h b₃ e₃
+three xs ys zs b ex ey ez h e₁ e₂ e₃ =
+    let one = first {whole = xs ++ (ys ++ zs)} {l = ys ++ zs} xs refl ex (omega arith) e₁ in
+    last (piece one ys {l = zs} refl ey (omega arith) e₂) ez h e₃
+
+-- four pieces likewise
+pub four : (xs ys zs vs b : List ℕ) {k m n l : ℕ} → length xs ≡ k → length ys ≡ m → length zs ≡ n → length vs ≡ l → k + m + n + l ≤ length b
+    → {b₁ : List ℕ} → b₁ ≡ over xs b → {b₂ : List ℕ} → b₂ ≡ over ys (part k b₁) → {b₃ : List ℕ} → b₃ ≡ over zs (part (k + m) (back k b₁ b₂))
+    → {b₄ : List ℕ} → b₄ ≡ over vs (part (k + m + n) (back (k + m) (back k b₁ b₂) b₃))
+    → back (k + m + n) (back (k + m) (back k b₁ b₂) b₃) b₄ ≡ over (xs ++ (ys ++ (zs ++ vs))) b
+four xs ys zs vs b ex ey ez ev h e₁ e₂ e₃ e₄ =
+    let one = first {whole = xs ++ (ys ++ (zs ++ vs))} {l = ys ++ (zs ++ vs)} xs refl ex (omega arith) e₁ in
+    last (piece (piece one ys {l = zs ++ vs} refl ey (omega arith) e₂) zs {l = vs} refl ez (omega arith) e₃) ev h e₄

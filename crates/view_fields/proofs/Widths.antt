@@ -1,6 +1,6 @@
 -- How many bytes each field of a view has. Assumes nothing.
 use mathlib.Core.Path.{_≡_, refl, ap, ap₂, _∙_}
-use mathlib.Core.List.{List, [], _∷_, _++_}
+use mathlib.Core.List.{List, _++_}
 use Prim.Native.Nat.{ℕ, zero, suc, _+_, _≤_, _/_}
 use native.Mathlib.Omega.{arith}
 use lib.ListN.{length, length-append}

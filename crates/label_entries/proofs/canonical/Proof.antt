@@ -1,11 +1,12 @@
 -- `label_entries::canonical` meets its contract. The loop's invariant: what is said of all the masks is said of those from `i` on.
 -- Assumes nothing.
+use mathlib.Core.List.{List}
 use mathlib.Core.Path.{_≡_, sym, _∙_}
-use Prim.Native.Nat.{_≤_, _-_}
+use Prim.Native.Nat.{ℕ, _≤_, _<_, _-_}
 use native.Mathlib.Omega.{arith}
 use borrow.Author.Needs.{needs}
 use borrow.Author.Tests.{not-true, not-false}
-use lib.ListN.{length, drop}
+use lib.ListN.{length, drop, getD}
 use Rattle.formulas.specs.Normal.{canonical}
 use Rattle.label_entries.proofs.Masks.{canon-wide, canon-led, canon-on, canon-end}
 use Rattle.label_entries.proofs.canonical.Statement.{statement}
@@ -17,46 +18,62 @@ Inv-loop masks i₀ i = (i ≤ length masks) × (canonical 6 masks ≡ canonical
 abbrev μ-loop : tie.MeasureT-loop
 μ-loop masks i₀ i = length masks - i
 
-loop-holds : tie.Need-loop-holds Inv-loop μ-loop
-loop-holds c = search needs
+abbrev Head : Type 0
+Head = tie.At-loop Inv-loop μ-loop
 
-shared-slice-read-wide : tie.Need-shared-slice-read-wide Inv-loop μ-loop
-shared-slice-read-wide c = search needs
+-- a mask is read
+abbrev Read : Type 0
+Read = tie.After-wide Inv-loop μ-loop
 
-wide-requires : tie.Need-wide-requires Inv-loop μ-loop
-wide-requires c κs = search needs
+-- the masks behind it are compared with it
+abbrev Led : Type 0
+Led = tie.After-leads Inv-loop μ-loop
+
+module _ (h : Head) where
+  abbrev masks : List ℕ
+  masks = let b : tie.Start Inv-loop μ-loop = search in b .args .masks .now
+
+module _ (w : Read) where
+  abbrev head : Head
+  head = search
+
+  inside : head .loop .i < length (masks head)
+  inside = let t : tie.In-loop Inv-loop μ-loop = search in omega (arith, t .loop-test .taken)
+
+module _ (d : Led) where
+  abbrev read : Read
+  read = search
+
+  abbrev top : Head
+  top = head read
+
+  small : getD (masks top) (top .loop .i) 0 < 64
+  small = let e : tie.Else1 Inv-loop μ-loop = search in omega (arith, read .wide .ensures, e .if1 .left)
 
 returns : tie.Need-returns Inv-loop μ-loop
 returns c =
-    let a = c .before .before .before .before .before .before .args in let l = c .before .before .before .before .loop in
-    sym (l .inv .1 ∙ canon-wide 6 (a .masks .now) (l .i) (search needs) (omega arith))
-
-add-leads : tie.Need-add-leads Inv-loop μ-loop
-add-leads c = search needs
-
-leads-requires : tie.Need-leads-requires Inv-loop μ-loop
-leads-requires c κs = search needs
+    let w : Read = search in
+    let h = head w in
+    sym (h .loop .inv .1 ∙ canon-wide 6 (masks h) (h .loop .i) (inside w) (omega (arith, w .wide .ensures, c .if1 .taken)))
 
 returns-2 : tie.Need-returns-2 Inv-loop μ-loop
 returns-2 c =
-    let a = c .before .before .before .before .before .before .before .before .args in let l = c .before .before .before .before .before .before .loop in
-    sym (l .inv .1 ∙ canon-led 6 (a .masks .now) (l .i) (search needs) _ (c .before .before .before .wide .ensures) _ (c .before .leads .ensures) (omega arith) (not-true _ (c .if2 .taken)))
-
-add-i : tie.Need-add-i Inv-loop μ-loop
-add-i c = search needs
-
-loop-less : tie.Need-loop-less Inv-loop μ-loop
-loop-less c = search needs
+    let d : Led = search in
+    let w = read d in
+    let l = top d .loop in
+    sym (l .inv .1 ∙ canon-led 6 (masks (top d)) (l .i) (inside w) _ (w .wide .ensures) _ (d .leads .ensures) (small d) (not-true _ (c .if2 .taken)))
 
 loop-again : tie.Need-loop-again Inv-loop μ-loop
 loop-again c =
-    let a = c .before .before .before .before .before .before .before .before .args in let l = c .before .before .before .before .before .before .loop in
-    (search needs, l .inv .1 ∙ canon-on 6 (a .masks .now) (l .i) (search needs) _ (c .before .before .before .wide .ensures) _ (c .before .leads .ensures) (omega arith) (not-false _ (c .if2 .left)))
+    let d : Led = search in
+    let w = read d in
+    let l = top d .loop in (
+      omega (arith, inside w),
+      l .inv .1 ∙ canon-on 6 (masks (top d)) (l .i) (inside w) _ (w .wide .ensures) _ (d .leads .ensures) (small d) (not-false _ (c .if2 .left)),
+    )
 
 returns-3 : tie.Need-returns-3 Inv-loop μ-loop
-returns-3 c =
-    let a = c .before .before .before .args in let l = c .before .loop in
-    sym (l .inv .1 ∙ canon-end 6 (a .masks .now) (l .i) (search needs))
+returns-3 c = let h : Head = search in sym (h .loop .inv .1 ∙ canon-end 6 (masks h) (h .loop .i) (omega (arith, c .loop-test .left)))
 
 pub canonical-spec : {M : Type 1} → statement M
 canonical-spec =
@@ -64,14 +81,14 @@ canonical-spec =
     (tie.spec
     Inv-loop
     μ-loop
-    loop-holds
-    shared-slice-read-wide
-    wide-requires
+    (search needs)
+    (search needs)
+    (search needs)
     returns
-    add-leads
-    leads-requires
+    (search needs)
+    (search needs)
     returns-2
-    add-i
-    loop-less
+    (search needs)
+    (search needs)
     loop-again
     returns-3)

@@ -16,40 +16,28 @@ Inv-loop mask t₀ p₀ t p = (p ≤ 6) × (t ≡ table 6 (mask % 2 ^ p ∷ []))
 abbrev μ-loop : tie.MeasureT-loop
 μ-loop mask t₀ p₀ t p = 6 - p
 
+abbrev Head : Type 0
+Head = tie.At-loop Inv-loop μ-loop
+
 loop-holds : tie.Need-loop-holds Inv-loop μ-loop
 loop-holds c = (omega arith, no-member (c .args .mask))
 
-has-requires : tie.Need-has-requires Inv-loop μ-loop
-has-requires c κs = search needs
-
-mul-t : tie.Need-mul-t Inv-loop μ-loop
-mul-t c = search needs
-
-array-read-t : tie.Need-array-read-t Inv-loop μ-loop
-array-read-t c = search needs
-
-add-p : tie.Need-add-p Inv-loop μ-loop
-add-p c = search needs
-
-loop-less : tie.Need-loop-less Inv-loop μ-loop
-loop-less c = search needs
-
 loop-again : tie.Need-loop-again Inv-loop μ-loop
 loop-again c =
-    let i = c .before .before .before .loop .inv in
-    let p = c .before .before .before .loop .p in
-    let m = c .before .before .before .before .args .mask in
-    let t = c .before .before .before .loop .t in
-    let h = c .before .has .ensures in (
-      search needs,
+    let h : tie.After-has Inv-loop μ-loop = search in
+    let i : tie.In-loop Inv-loop μ-loop = search in
+    let l : Head = search in
+    let b : tie.Start Inv-loop μ-loop = search in
+    let p = l .loop .p in (
+      omega (arith, i .loop-test .taken),
       ⊎-elim
-          (λ w. w .1 ∙ clause-with 6 m p t (i .1) _ (single-table p (search needs)) (sym h ∙ w .0 .taken))
-          (λ w. w .1 ∙ clause-without 6 m p t (i .1) (sym h ∙ w .0 .left))
+          (λ w. w .1 ∙ clause-with 6 (b .args .mask) p _ (l .loop .inv .1) _ (single-table p (omega (arith, i .loop-test .taken))) (sym (h .has .ensures) ∙ w .0 .taken))
+          (λ w. w .1 ∙ clause-without 6 (b .args .mask) p _ (l .loop .inv .1) (sym (h .has .ensures) ∙ w .0 .left))
           (c .if1 .came),
     )
 
 returns : tie.Need-returns Inv-loop μ-loop
-returns c = c .before .loop .inv .1 ∙ clause-whole _ _ (omega arith)
+returns c = let l : Head = search in l .loop .inv .1 ∙ clause-whole _ _ (omega (arith, l .loop .inv .0, c .loop-test .left))
 
 pub clause-table-spec : {M : Type 1} → statement M
 clause-table-spec =
@@ -58,10 +46,10 @@ clause-table-spec =
     Inv-loop
     μ-loop
     loop-holds
-    has-requires
-    mul-t
-    array-read-t
-    add-p
-    loop-less
+    (search needs)
+    (search needs)
+    (search needs)
+    (search needs)
+    (search needs)
     loop-again
     returns)

@@ -4,11 +4,5 @@ use Rattle.label_entries.proofs.Words.{has-test}
 use Rattle.label_entries.proofs.has.Statement.{statement}
 use Rattle.label_entries.proofs.has.Tie as tie
 
-shr-result : tie.Need-shr-result
-shr-result c = search needs
-
-returns : tie.Need-returns
-returns c = has-test _ _
-
 pub has-spec : {M : Type 1} → statement M
-has-spec = tie.close (tie.spec shr-result returns)
+has-spec = tie.close (tie.spec (search needs) (λ c. has-test _ _))

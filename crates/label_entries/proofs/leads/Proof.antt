@@ -1,10 +1,11 @@
 -- `label_entries::leads` meets its contract. The loop's invariant: what is said of the masks from `from` on is said of those from `j` on.
 -- Assumes nothing.
+use mathlib.Core.List.{List}
 use mathlib.Core.Path.{_≡_, sym, _∙_}
-use Prim.Native.Nat.{_≤_, _-_}
+use Prim.Native.Nat.{ℕ, _≤_, _<_, _-_}
 use native.Mathlib.Omega.{arith}
 use borrow.Author.Needs.{needs}
-use lib.ListN.{length, drop}
+use lib.ListN.{length, drop, getD}
 use Rattle.formulas.specs.Normal.{leads}
 use Rattle.label_entries.proofs.Masks.{leads-below, leads-subset, leads-on, leads-end}
 use Rattle.label_entries.proofs.leads.Statement.{statement}
@@ -16,40 +17,63 @@ Inv-loop c masks from j₀ j = (j ≤ length masks) × (leads c (drop from masks
 abbrev μ-loop : tie.MeasureT-loop
 μ-loop c masks from j₀ j = length masks - j
 
-loop-holds : tie.Need-loop-holds Inv-loop μ-loop
-loop-holds c = search needs
+abbrev Head : Type 0
+Head = tie.At-loop Inv-loop μ-loop
 
-shared-slice-read-wide : tie.Need-shared-slice-read-wide Inv-loop μ-loop
-shared-slice-read-wide c = search needs
+-- a mask is read
+abbrev Read : Type 0
+Read = tie.After-wide Inv-loop μ-loop
 
-wide-requires : tie.Need-wide-requires Inv-loop μ-loop
-wide-requires c κs = search needs
+module _ (h : Head) where
+  abbrev clause : ℕ
+  clause = let b : tie.Start Inv-loop μ-loop = search in b .args .c
+
+  abbrev masks : List ℕ
+  masks = let b : tie.Start Inv-loop μ-loop = search in b .args .masks .now
+
+module _ (w : Read) where
+  abbrev head : Head
+  head = search
+
+  inside : head .loop .j < length (masks head)
+  inside = let t : tie.In-loop Inv-loop μ-loop = search in omega (arith, t .loop-test .taken)
+
+-- the mask is above the clause
+abbrev Above : Type 0
+Above = tie.Else1 Inv-loop μ-loop
+
+module _ (e : Above) where
+  abbrev read : Read
+  read = search
+
+  abbrev top : Head
+  top = head read
+
+  above : clause top < getD (masks top) (top .loop .j) 0
+  above = omega (arith, read .wide .ensures, e .if1 .left)
 
 returns : tie.Need-returns Inv-loop μ-loop
 returns c =
-    let a = c .before .before .before .before .before .before .args in let l = c .before .before .before .before .loop in
-    sym (l .inv .1 ∙ leads-below (a .c) (a .masks .now) (l .j) (search needs) (omega arith))
+    let w : Read = search in
+    let h = head w in
+    sym (h .loop .inv .1 ∙ leads-below (clause h) (masks h) (h .loop .j) (inside w) (omega (arith, w .wide .ensures, c .if1 .taken)))
 
 returns-2 : tie.Need-returns-2 Inv-loop μ-loop
 returns-2 c =
-    let a = c .before .before .before .before .before .before .before .args in let l = c .before .before .before .before .before .loop in
-    sym (l .inv .1 ∙ leads-subset (a .c) (a .masks .now) (l .j) (search needs) _ (c .before .before .wide .ensures) (omega arith) (c .if2 .taken))
-
-add-j : tie.Need-add-j Inv-loop μ-loop
-add-j c = search needs
-
-loop-less : tie.Need-loop-less Inv-loop μ-loop
-loop-less c = search needs
+    let e : Above = search in
+    let w = read e in
+    let l = top e .loop in
+    sym (l .inv .1 ∙ leads-subset (clause (top e)) (masks (top e)) (l .j) (inside w) _ (w .wide .ensures) (above e) (c .if2 .taken))
 
 loop-again : tie.Need-loop-again Inv-loop μ-loop
 loop-again c =
-    let a = c .before .before .before .before .before .before .before .args in let l = c .before .before .before .before .before .loop in
-    (search needs, l .inv .1 ∙ leads-on (a .c) (a .masks .now) (l .j) (search needs) _ (c .before .before .wide .ensures) (omega arith) (c .if2 .left))
+    let e : Above = search in
+    let w = read e in
+    let l = top e .loop in
+    (omega (arith, inside w), l .inv .1 ∙ leads-on (clause (top e)) (masks (top e)) (l .j) (inside w) _ (w .wide .ensures) (above e) (c .if2 .left))
 
 returns-3 : tie.Need-returns-3 Inv-loop μ-loop
-returns-3 c =
-    let a = c .before .before .before .args in let l = c .before .loop in
-    sym (l .inv .1 ∙ leads-end (a .c) (a .masks .now) (l .j) (search needs))
+returns-3 c = let h : Head = search in sym (h .loop .inv .1 ∙ leads-end (clause h) (masks h) (h .loop .j) (omega (arith, c .loop-test .left)))
 
 pub leads-spec : {M : Type 1} → statement M
 leads-spec =
@@ -57,12 +81,12 @@ leads-spec =
     (tie.spec
     Inv-loop
     μ-loop
-    loop-holds
-    shared-slice-read-wide
-    wide-requires
+    (λ c. search needs)
+    (search needs)
+    (search needs)
     returns
     returns-2
-    add-j
-    loop-less
+    (search needs)
+    (search needs)
     loop-again
     returns-3)

@@ -1,6 +1,6 @@
 -- `label_entries::maximal_false` meets its contract. The loop's invariant: the principals below `p` pass. Assumes nothing.
 use mathlib.Core.Path.{sym, _∙_}
-use Prim.Native.Nat.{_≤_, _-_}
+use Prim.Native.Nat.{ℕ, _≤_, _-_}
 use native.Mathlib.Omega.{arith}
 use borrow.Author.Needs.{needs}
 use borrow.Author.Tests.{not-true, not-false}
@@ -16,38 +16,45 @@ Inv-loop t x p₀ p = (p ≤ 6) × T (allBelow p (passesWith t x))
 abbrev μ-loop : tie.MeasureT-loop
 μ-loop t x p₀ p = 6 - p
 
-has-requires : tie.Need-has-requires Inv-loop μ-loop
-has-requires c κs = search needs
+abbrev Head : Type 0
+Head = tie.At-loop Inv-loop μ-loop
+
+-- a principal is tried
+abbrev Tried : Type 0
+Tried = tie.After-passes-with Inv-loop μ-loop
+
+module _ (h : Head) where
+  abbrev begun : tie.Start Inv-loop μ-loop
+  begun = search
+
+  abbrev t : ℕ
+  t = begun .args .t
+
+  abbrev x : ℕ
+  x = begun .args .x
 
 returns : tie.Need-returns Inv-loop μ-loop
-returns c = sym (maximal-in _ _ (sym (c .before .has .ensures) ∙ c .if1 .taken))
-
-loop-holds : tie.Need-loop-holds Inv-loop μ-loop
-loop-holds c = (search needs, tt)
-
-passes-with-requires : tie.Need-passes-with-requires Inv-loop μ-loop
-passes-with-requires c κs = search needs
+returns c = let h : tie.After-has Inv-loop μ-loop = search in sym (maximal-in _ _ (sym (h .has .ensures) ∙ c .if1 .taken))
 
 returns-2 : tie.Need-returns-2 Inv-loop μ-loop
 returns-2 c =
-    let a = c .before .before .before .before .before .before .args in let l = c .before .before .before .loop in
-    sym (maximal-stops (a .t) (a .x) (l .p) (search needs) (sym (c .before .passes-with .ensures) ∙ not-true _ (c .if2 .taken)))
-
-add-p : tie.Need-add-p Inv-loop μ-loop
-add-p c = search needs
-
-loop-less : tie.Need-loop-less Inv-loop μ-loop
-loop-less c = search needs
+    let q : Tried = search in
+    let i : tie.In-loop Inv-loop μ-loop = search in
+    let h : Head = search in
+    sym (maximal-stops (t h) (x h) (h .loop .p) (omega (arith, i .loop-test .taken)) (sym (q .passes-with .ensures) ∙ not-true _ (c .if2 .taken)))
 
 loop-again : tie.Need-loop-again Inv-loop μ-loop
 loop-again c =
-    let a = c .before .before .before .before .before .before .args in let l = c .before .before .before .loop in
-    (search needs, passes-next (a .t) (a .x) (l .p) (l .inv .1) (sym (c .before .passes-with .ensures) ∙ not-false _ (c .if2 .left)))
+    let q : Tried = search in
+    let h : Head = search in
+    (search needs, passes-next (t h) (x h) (h .loop .p) (h .loop .inv .1) (sym (q .passes-with .ensures) ∙ not-false _ (c .if2 .left)))
 
 returns-3 : tie.Need-returns-3 Inv-loop μ-loop
 returns-3 c =
-    let a = c .before .before .before .before .args in let l = c .before .loop in
-    sym (maximal-is (a .t) (a .x) (l .p) (omega arith) (l .inv .1) (sym (c .before .before .before .has .ensures) ∙ c .before .before .if1 .left))
+    let h : Head = search in
+    let e : tie.Else1 Inv-loop μ-loop = search in
+    let f : tie.After-has Inv-loop μ-loop = search in
+    sym (maximal-is (t h) (x h) (h .loop .p) (omega (arith, h .loop .inv .0, c .loop-test .left)) (h .loop .inv .1) (sym (f .has .ensures) ∙ e .if1 .left))
 
 pub maximal-false-spec : {M : Type 1} → statement M
 maximal-false-spec =
@@ -55,12 +62,12 @@ maximal-false-spec =
     (tie.spec
     Inv-loop
     μ-loop
-    has-requires
+    (search needs)
     returns
-    loop-holds
-    passes-with-requires
+    (λ c. (search needs, tt))
+    (search needs)
     returns-2
-    add-p
-    loop-less
+    (search needs)
+    (search needs)
     loop-again
     returns-3)

@@ -8,22 +8,22 @@ use Rattle.label_entries.proofs.read_formula.Statement.{statement}
 use Rattle.label_entries.proofs.read_formula.Tie as tie
 
 returns : tie.Need-returns
-returns c = formula-long (c .before .before .args .masks .now) (omega arith)
-
-canonical-requires : tie.Need-canonical-requires
-canonical-requires c κs = search needs
+returns c = let b : tie.Start = search in formula-long (b .args .masks .now) (omega (arith, c .if1 .taken))
 
 returns-2 : tie.Need-returns-2
-returns-2 c = formula-bad (c .before .before .before .before .args .masks .now) (sym (c .before .canonical .ensures) ∙ not-true _ (c .if2 .taken))
-
-table-of-requires : tie.Need-table-of-requires
-table-of-requires c κs = search needs
+returns-2 c =
+    let d : tie.After-canonical = search in
+    let b : tie.Start = search in
+    formula-bad (b .args .masks .now) (sym (d .canonical .ensures) ∙ not-true _ (c .if2 .taken))
 
 returns-3 : tie.Need-returns-3
 returns-3 c =
-    let ms = c .before .before .before .before .before .args .masks .now in
-    formula-good ms (omega (arith, c .before .before .before .if1 .left)) (sym (c .before .before .canonical .ensures) ∙ not-false _ (c .before .if2 .left)) _ (c .table-of .ensures)
+    let e2 : tie.Else2 = search in
+    let d : tie.After-canonical = search in
+    let e : tie.Else1 = search in
+    let b : tie.Start = search in
+    formula-good (b .args .masks .now) (omega (arith, e .if1 .left)) (sym (d .canonical .ensures) ∙ not-false _ (e2 .if2 .left)) _ (c .table-of .ensures)
 
 pub read-formula-spec : {M : Type 1} → statement M
 read-formula-spec =
-    tie.close (tie.spec returns canonical-requires returns-2 table-of-requires returns-3)
+    tie.close (tie.spec returns (search needs) returns-2 (search needs) returns-3)

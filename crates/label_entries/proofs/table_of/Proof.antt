@@ -19,33 +19,30 @@ Inv-loop masks t₀ i₀ t i = (i ≤ length masks) × (t < 2 ^ 64) × (table 6 
 abbrev μ-loop : tie.MeasureT-loop
 μ-loop masks t₀ i₀ t i = length masks - i
 
+abbrev Head : Type 0
+Head = tie.At-loop Inv-loop μ-loop
+
 loop-holds : tie.Need-loop-holds Inv-loop μ-loop
 loop-holds c = (search needs, omega arith, table-start _)
 
-shared-slice-read-wide : tie.Need-shared-slice-read-wide Inv-loop μ-loop
-shared-slice-read-wide c = search needs
-
-wide-requires : tie.Need-wide-requires Inv-loop μ-loop
-wide-requires c κs = search needs
-
-clause-table-requires : tie.Need-clause-table-requires Inv-loop μ-loop
-clause-table-requires c κs = search needs
-
-add-i : tie.Need-add-i Inv-loop μ-loop
-add-i c = search needs
-
-loop-less : tie.Need-loop-less Inv-loop μ-loop
-loop-less c = search needs
-
 loop-again : tie.Need-loop-again Inv-loop μ-loop
 loop-again c =
-    let a = c .before .before .before .before .before .before .args in let l = c .before .before .before .before .loop in
-    (search needs, lt-of-le-of-lt (and-le-l (l .t) _) (l .inv .1), table-step (a .masks .now) (l .i) (l .t) _ (search needs) (c .clause-table .ensures ∙ ap (λ (x : ℕ). table 6 (x ∷ [])) (c .before .wide .ensures)) (l .inv .2))
+    let w : tie.After-wide Inv-loop μ-loop = search in
+    let i : tie.In-loop Inv-loop μ-loop = search in
+    let h : Head = search in
+    let b : tie.Start Inv-loop μ-loop = search in
+    let below : h .loop .i < length (b .args .masks .now) = omega (arith, i .loop-test .taken) in
+    let s = c .clause-table .ensures ∙ ap (λ (x : ℕ). table 6 (x ∷ [])) (w .wide .ensures) in (
+      omega (arith, below),
+      lt-of-le-of-lt (and-le-l (h .loop .t) _) (h .loop .inv .1),
+      table-step (b .args .masks .now) (h .loop .i) (h .loop .t) _ below s (h .loop .inv .2),
+    )
 
 returns : tie.Need-returns Inv-loop μ-loop
 returns c =
-    let a = c .before .before .before .args in let l = c .before .loop in
-    table-end (a .masks .now) (l .i) (l .t) (search needs) (l .inv .1) (l .inv .2)
+    let h : Head = search in
+    let b : tie.Start Inv-loop μ-loop = search in
+    table-end (b .args .masks .now) (h .loop .i) (h .loop .t) (omega (arith, c .loop-test .left)) (h .loop .inv .1) (h .loop .inv .2)
 
 pub table-of-spec : {M : Type 1} → statement M
 table-of-spec =
@@ -54,10 +51,10 @@ table-of-spec =
     Inv-loop
     μ-loop
     loop-holds
-    shared-slice-read-wide
-    wide-requires
-    clause-table-requires
-    add-i
-    loop-less
+    (search needs)
+    (search needs)
+    (search needs)
+    (search needs)
+    (search needs)
     loop-again
     returns)

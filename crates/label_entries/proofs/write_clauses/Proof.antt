@@ -1,9 +1,9 @@
 -- `label_entries::write_clauses` meets its contract. The loop's invariant is `Writing`. Assumes nothing.
-use mathlib.Core.Path.{refl, sym, _∙_, subst₂}
+use mathlib.Core.Path.{refl, sym, _∙_}
 use mathlib.Core.Logic.{⊎-elim}
-use mathlib.Core.List.{List}
-use Prim.Native.Nat.{ℕ, _+_, _-_}
+use Prim.Native.Nat.{ℕ, _<_, _-_}
 use native.Mathlib.Omega.{arith}
+use borrow.Author.Needs.{needs}
 use Rattle.label_entries.proofs.Listing.{Writing, write-start, has-room, write-on, write-one, write-end}
 use Rattle.label_entries.proofs.write_clauses.Statement.{statement}
 use Rattle.label_entries.proofs.write_clauses.Tie as tie
@@ -14,48 +14,43 @@ Inv-loop t out₀ n₀ mask₀ out n mask = Writing t out n mask
 abbrev μ-loop : tie.MeasureT-loop
 μ-loop t out₀ n₀ mask₀ out n mask = 64 - mask
 
-loop-holds : tie.Need-loop-holds Inv-loop μ-loop
-loop-holds c = write-start _ _ (c .before .pre)
+abbrev Head : Type 0
+Head = tie.At-loop Inv-loop μ-loop
 
-sub-maximal-false : tie.Need-sub-maximal-false Inv-loop μ-loop
-sub-maximal-false c = omega arith
+-- a mask is tested
+abbrev Tested : Type 0
+Tested = tie.After-maximal-false Inv-loop μ-loop
 
-maximal-false-requires : tie.Need-maximal-false-requires Inv-loop μ-loop
-maximal-false-requires c κs = omega arith
+module _ (f : Tested) where
+  abbrev head : Head
+  head = search
 
-cast-out : tie.Need-cast-out Inv-loop μ-loop
-cast-out c = omega arith
+  abbrev t : ℕ
+  t = let b : tie.Start Inv-loop μ-loop = search in b .args .t
+
+  inside : head .loop .mask < 64
+  inside = let i : tie.In-loop Inv-loop μ-loop = search in omega (arith, i .loop-test .taken)
 
 slice-write-out : tie.Need-slice-write-out Inv-loop μ-loop
 slice-write-out c =
-    let l = c .before .before .before .loop in
-    has-room (c .before .before .before .before .before .args .t) (l .out) (l .n) (l .mask) (l .inv) (omega arith) (sym (c .before .maximal-false .ensures) ∙ c .if1 .taken)
-
-add-n : tie.Need-add-n Inv-loop μ-loop
-add-n c = omega arith
-
-add-mask : tie.Need-add-mask Inv-loop μ-loop
-add-mask c = omega arith
-
-loop-less : tie.Need-loop-less Inv-loop μ-loop
-loop-less c = omega arith
+    let f : Tested = search in
+    let l = head f .loop in
+    has-room (t f) (l .out) (l .n) (l .mask) (l .inv) (inside f) (sym (f .maximal-false .ensures) ∙ c .if1 .taken)
 
 loop-again : tie.Need-loop-again Inv-loop μ-loop
 loop-again c =
-    let t = c .before .before .before .before .before .args .t in
-    let l = c .before .before .before .loop in
+    let f : Tested = search in
+    let l = head f .loop in
     ⊎-elim
-    (λ w. subst₂ (λ (o : List ℕ) (k : ℕ). Writing t o k (l .mask + 1)) (sym (w .1)) (sym (w .2))
-    (write-one t (l .out) (l .n) (l .mask) (l .inv) (omega arith) _ refl (sym (c .before .maximal-false .ensures) ∙ w .0 .taken)))
-    (λ w. subst₂ (λ (o : List ℕ) (k : ℕ). Writing t o k (l .mask + 1)) (sym (w .1)) (sym (w .2))
-    (write-on t (l .out) (l .n) (l .mask) (l .inv) (omega arith) (sym (c .before .maximal-false .ensures) ∙ w .0 .left)))
+    (λ w. rw (w .1, w .2) (write-one (t f) (l .out) (l .n) (l .mask) (l .inv) (inside f) _ refl (sym (f .maximal-false .ensures) ∙ w .0 .taken)))
+    (λ w. rw (w .1, w .2) (write-on (t f) (l .out) (l .n) (l .mask) (l .inv) (inside f) (sym (f .maximal-false .ensures) ∙ w .0 .left)))
     (c .if1 .came)
 
 same-length : tie.Need-same-length Inv-loop μ-loop
-same-length c = c .before .loop .inv .whole ∙ sym (c .before .before .before .pre)
+same-length c = let h : Head = search in let b : tie.Start Inv-loop μ-loop = search in h .loop .inv .whole ∙ sym (b .pre)
 
 returns : tie.Need-returns Inv-loop μ-loop
-returns c = write-end _ _ _ _ (c .before .loop .inv) (omega arith)
+returns c = let h : Head = search in write-end _ _ _ _ (h .loop .inv) (omega (arith, c .loop-test .left))
 
 pub write-clauses-spec : {M : Type 1} → statement M
 write-clauses-spec =
@@ -63,14 +58,14 @@ write-clauses-spec =
     (tie.spec
     Inv-loop
     μ-loop
-    loop-holds
-    sub-maximal-false
-    maximal-false-requires
-    cast-out
+    (λ c. let b : tie.Start Inv-loop μ-loop = search in write-start _ _ (b .pre))
+    (search needs)
+    (search needs)
+    (search needs)
     slice-write-out
-    add-n
-    add-mask
-    loop-less
+    (λ c. omega (arith, head (search) .loop .inv .room))
+    (search needs)
+    (search needs)
     loop-again
     same-length
     returns)

@@ -7,18 +7,17 @@ use borrow.Author.Needs.{needs}
 use Rattle.lines.proofs.cut.Statement.{statement}
 use Rattle.lines.proofs.cut.Tie as tie
 
-returns : tie.Need-returns
-returns c = search needs
-
 returns-2 : tie.Need-returns-2
 returns-2 c =
-    let bs = c .before .args .bytes .now in
+    let begun : tie.Start = search in
+    let bs = begun .args .bytes .now in
+    let n = begun .args .width in
     record {
       within = omega arith;
       few = omega arith;
-      taken = take-length bs ∙ sym (take-all (c .before .args .width) bs (omega arith));
-      dropped = drop-length bs ∙ sym (drop-of-length-le bs {i = c .before .args .width} (omega arith));
+      taken = take-length bs ∙ sym (take-all n bs (omega arith));
+      dropped = drop-length bs ∙ sym (drop-of-length-le bs {i = n} (omega arith));
     }
 
 pub cut-spec : {M : Type 1} → statement M
-cut-spec = tie.close (tie.spec returns returns-2)
+cut-spec = tie.close (tie.spec (λ c. search needs) returns-2)

@@ -1,53 +1,49 @@
 -- `lines::write_field` meets its contract. Assumes nothing.
 use mathlib.Core.Path.{refl, sym}
-use mathlib.Core.List.{[], _∷_, append-nil}
+use mathlib.Core.List.{List, [], _∷_, append-nil}
 use native.Mathlib.Omega.{arith}
-use Prim.Native.Nat.{_-_, _*_}
-use lib.ListN.{length, length-set}
+use Prim.Native.Nat.{ℕ, _+_, _*_}
+use lib.ListN.{length, set, length-set}
 use Rattle.lines.specs.Lines.{hex}
-use Rattle.view_fields.proofs.Buffers.{start, byte, piece, last, room-for}
+use Rattle.view_fields.proofs.Buffers.{Writing, back, start, byte, piece, ends, room-for}
 use Rattle.lines.proofs.Printing.{length-hex}
 use borrow.Author.Needs.{needs}
 use Rattle.lines.proofs.write_field.Statement.{statement}
 use Rattle.lines.proofs.write_field.Tie as tie
 
-slice-write-out : tie.Need-slice-write-out
-slice-write-out c = search needs
+module _ (c : tie.Start) where
+  abbrev field : List ℕ
+  field = c .args .field .now
 
-sub-write-hex : tie.Need-sub-write-hex
-sub-write-hex c = simp length-set (omega arith)
+  abbrev out : List ℕ
+  out = c .args .out .now
 
-part-write-hex-start : tie.Need-part-write-hex-start
-part-write-hex-start c = simp length-set (omega arith)
+  -- the space is written
+  w1 : Writing (0x20 ∷ hex field) (hex field) out (set out 0 0x20) 1
+  w1 = byte (start refl) refl (omega (arith, c .pre))
 
-part-write-hex-end : tie.Need-part-write-hex-end
-part-write-hex-end c = search needs
+module _ (c : tie.After-write-hex) where
+  abbrev begun : tie.Start
+  begun = search
+
+  -- and the field
+  w2 : Writing (0x20 ∷ hex (field begun)) [] (out begun) (back 1 (set (out begun) 0 0x20) (c .write-hex .last .1 .0)) (1 + 2 * length (field begun))
+  w2 = piece (w1 begun) (hex (field begun)) (sym (append-nil (hex (field begun)))) (length-hex (field begun)) (begun .pre) (c .write-hex .ensures)
 
 write-hex-requires : tie.Need-write-hex-requires
-write-hex-requires c κs =
-    let a = c .before .before .before .args in
-    room-for (byte (start (0x20 ∷ hex (a .field .now)) _ (a .out .now) refl) 0x20 (hex (a .field .now)) refl (omega arith)) (2 * length (a .field .now)) (omega arith)
-
-same-length : tie.Need-same-length
-same-length c =
-    let a = c .before .before .before .before .before .before .args in
-    piece (byte (start (0x20 ∷ hex (a .field .now)) _ (a .out .now) refl) 0x20 (hex (a .field .now)) refl (omega arith))
-    (hex (a .field .now)) [] (sym (append-nil (hex (a .field .now)))) (2 * length (a .field .now)) (length-hex (a .field .now)) (omega arith) _ (c .before .before .write-hex .ensures) .same
+write-hex-requires c κs = let b : tie.Start = search in room-for (w1 b) (2 * length (field b)) (omega (arith, b .pre))
 
 returns : tie.Need-returns
-returns c =
-    let a = c .before .before .before .before .before .before .args in
-    last (byte (start (0x20 ∷ hex (a .field .now)) _ (a .out .now) refl) 0x20 (hex (a .field .now)) refl (omega arith))
-    (2 * length (a .field .now)) (length-hex (a .field .now)) (omega arith) _ (c .before .before .write-hex .ensures)
+returns c = let h : tie.After-write-hex = search in ends (w2 h) refl
 
 pub write-field-spec : {M : Type 1} → statement M
 write-field-spec =
     tie.close
     (tie.spec
-    slice-write-out
-    sub-write-hex
-    part-write-hex-start
-    part-write-hex-end
+    (search needs)
+    (λ c. simp length-set (omega arith))
+    (λ c. simp length-set (omega arith))
+    (search needs)
     write-hex-requires
-    same-length
+    (λ c. w2 (search) .same)
     returns)

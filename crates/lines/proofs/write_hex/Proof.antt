@@ -1,9 +1,9 @@
 -- `lines::write_hex` meets its contract. Assumes nothing.
 use mathlib.Core.Path.{_≡_, refl, sym, ap, ap₂, _∙_}
-use mathlib.Core.List.{[], _∷_}
+use mathlib.Core.List.{List, [], _∷_, _++_}
 use native.Mathlib.Omega.{arith}
-use Prim.Native.Nat.{ℕ, _+_, _-_, _*_, _≤_}
-use lib.ListN.{length, drop, drop-of-length-le}
+use Prim.Native.Nat.{ℕ, _+_, _-_, _*_, _≤_, _<_}
+use lib.ListN.{length, getD, drop, drop-of-length-le}
 use Rattle.lines.specs.Lines.{hex}
 use Rattle.view_fields.proofs.Buffers.{Writing, start, piece, ends, room-for}
 use Rattle.lines.proofs.Printing.{hex-here}
@@ -11,64 +11,73 @@ use borrow.Author.Needs.{needs}
 use Rattle.lines.proofs.write_hex.Statement.{statement}
 use Rattle.lines.proofs.write_hex.Tie as tie
 
+-- the digits of i bytes are written
 abbrev Inv-loop : tie.InvT-loop
 Inv-loop bytes out₀ at₀ i₀ out at i = (i ≤ length bytes) × (at ≡ 2 * i) × Writing (hex bytes) (hex (drop i bytes)) out₀ out at
 
 abbrev μ-loop : tie.MeasureT-loop
 μ-loop bytes out₀ at₀ i₀ out at i = length bytes - i
 
-loop-holds : tie.Need-loop-holds Inv-loop μ-loop
-loop-holds c = (omega arith, omega arith, start _ _ _ refl)
+abbrev Start : Type 0
+Start = tie.Start Inv-loop μ-loop
 
-shared-slice-read-b : tie.Need-shared-slice-read-b Inv-loop μ-loop
-shared-slice-read-b c = search needs
+abbrev Head : Type 0
+Head = tie.At-loop Inv-loop μ-loop
 
-hex-digit-requires : tie.Need-hex-digit-requires Inv-loop μ-loop
-hex-digit-requires c κs = omega (arith, c .shared-slice-known2 .given (c .before .before .loop .i))
+-- a byte is read; both its digits are known
+abbrev Read : Type 0
+Read = tie.After-shared-slice-known2 Inv-loop μ-loop
 
-hex-digit-requires-2 : tie.Need-hex-digit-requires-2 Inv-loop μ-loop
-hex-digit-requires-2 c κs = omega (arith, c .before .shared-slice-known2 .given (c .before .before .before .loop .i))
+abbrev Digits : Type 0
+Digits = tie.After-hex-digit2 Inv-loop μ-loop
 
-sub-write-pair : tie.Need-sub-write-pair Inv-loop μ-loop
-sub-write-pair c = omega (arith, c .before .before .before .before .loop .inv .2 .same)
+module _ (c : Read) where
+  abbrev head : Head
+  head = search
 
-part-write-pair-start : tie.Need-part-write-pair-start Inv-loop μ-loop
-part-write-pair-start c = omega (arith, c .before .before .before .before .loop .inv .2 .same)
+  abbrev bytes : List ℕ
+  bytes = let b : Start = search in b .args .bytes .now
 
-part-write-pair-end : tie.Need-part-write-pair-end Inv-loop μ-loop
-part-write-pair-end c = search needs
+  small : getD bytes (head .loop .i) 0 < 256
+  small = omega (arith, c .shared-slice-known2 .given (head .loop .i))
+
+module _ (c : Digits) where
+  abbrev high : tie.After-hex-digit Inv-loop μ-loop
+  high = search
+
+  abbrev top : Head
+  top = search
+
+  abbrev begun : Start
+  begun = search
+
+  abbrev digits : List ℕ
+  digits = high .hex-digit .result ∷ c .hex-digit2 .result ∷ []
+
+  abbrev others : List ℕ
+  others = hex (drop (top .loop .i + 1) (begun .args .bytes .now))
+
+  here : hex (drop (top .loop .i) (begun .args .bytes .now)) ≡ digits ++ others
+  here = hex-here (begun .args .bytes .now) (top .loop .i) (omega arith) ∙ ap₂ (λ (u v : ℕ). u ∷ v ∷ others) (sym (high .hex-digit .ensures)) (sym (c .hex-digit2 .ensures))
+
+  room : top .loop .at + 2 ≤ length (begun .args .out .now)
+  room = omega (arith, top .loop .inv .1, begun .pre)
 
 write-pair-requires : tie.Need-write-pair-requires Inv-loop μ-loop
-write-pair-requires c κs = room-for (c .before .before .before .before .before .loop .inv .2) 2 (omega (arith, c .before .before .before .before .before .loop .inv .1))
-
-add-at : tie.Need-add-at Inv-loop μ-loop
-add-at c = omega arith
-
-add-i : tie.Need-add-i Inv-loop μ-loop
-add-i c = search needs
-
-loop-less : tie.Need-loop-less Inv-loop μ-loop
-loop-less c = omega arith
+write-pair-requires c κs = let d : Digits = search in room-for (top d .loop .inv .2) 2 (room d)
 
 loop-again : tie.Need-loop-again Inv-loop μ-loop
 loop-again c =
-    let l = c .before .before .before .before .before .before .before .before .loop in
-    let bs = c .before .before .before .before .before .before .before .before .before .before .before .args .bytes .now in
-    let x = c .before .before .before .before .before .hex-digit .result in
-    let y = c .before .before .before .before .hex-digit2 .result in (
-      omega arith,
-      omega arith,
-      piece (l .inv .2) (x ∷ y ∷ []) (hex (drop (l .i + 1) bs))
-          (hex-here bs (l .i) (omega arith) ∙ ap₂ (λ (u v : ℕ). u ∷ v ∷ hex (drop (l .i + 1) bs)) (sym (c .before .before .before .before .before .hex-digit .ensures)) (sym (c .before .before .before .before .hex-digit2 .ensures)))
-          2 refl (omega (arith, l .inv .1)) _ (c .before .before .write-pair .ensures),
-    )
-
-same-length : tie.Need-same-length Inv-loop μ-loop
-same-length c = c .before .loop .inv .2 .same
+    let written : tie.After-write-pair Inv-loop μ-loop = search in
+    let d : Digits = search in
+    (omega arith, omega arith, piece (top d .loop .inv .2) (digits d) (here d) refl (room d) (written .write-pair .ensures))
 
 returns : tie.Need-returns Inv-loop μ-loop
 unfolding hex
-returns c = ends (c .before .loop .inv .2) (ap hex (drop-of-length-le (c .before .before .before .before .args .bytes .now) {i = c .before .loop .i} (omega arith)))
+returns c =
+    let l : Head = search in
+    let b : Start = search in
+    ends (l .loop .inv .2) (ap hex (drop-of-length-le (b .args .bytes .now) {i = l .loop .i} (omega arith)))
 
 pub write-hex-spec : {M : Type 1} → statement M
 write-hex-spec =
@@ -76,17 +85,17 @@ write-hex-spec =
     (tie.spec
     Inv-loop
     μ-loop
-    loop-holds
-    shared-slice-read-b
-    hex-digit-requires
-    hex-digit-requires-2
-    sub-write-pair
-    part-write-pair-start
-    part-write-pair-end
+    (λ c. (omega arith, omega arith, start refl))
+    (search needs)
+    (λ c κs. omega (arith, small (search)))
+    (λ c κs. omega (arith, small (search)))
+    (λ c. let l : Head = search in omega (arith, l .loop .inv .2 .same))
+    (λ c. let l : Head = search in omega (arith, l .loop .inv .2 .same))
+    (search needs)
     write-pair-requires
-    add-at
-    add-i
-    loop-less
+    (λ c. omega arith)
+    (search needs)
+    (λ c. omega arith)
     loop-again
-    same-length
+    (λ c. let l : Head = search in l .loop .inv .2 .same)
     returns)

@@ -1,5 +1,6 @@
 -- `monitor::nechwalu_read` meets its contract.
-use mathlib.Core.Path.{sym, ap, _∙_}
+use mathlib.Core.Path.{_≡_, sym, ap, _∙_}
+use Rattle.view.specs.Reading.{reading}
 use Rattle.reading.specs.Answers.{reads}
 use Rattle.reading.specs.declared.Answer.{Answer}
 use Rattle.reading.specs.declared.Answer.the-variants.{Refused, Viewed}
@@ -8,35 +9,34 @@ use borrow.Author.Needs.{needs}
 use Rattle.monitor.proofs.nechwalu_read.Statement.{statement}
 use Rattle.monitor.proofs.nechwalu_read.Tie as tie
 
-read-requires : tie.Need-read-requires
-read-requires c κs = search needs
+module _ (r : tie.After-read) where
+  abbrev begun : tie.Start
+  begun = search
 
-enum-known-n : tie.Need-enum-known-n
-enum-known-n c = search needs
-
-enum-known-n-2 : tie.Need-enum-known-n-2
-enum-known-n-2 c = search needs
-
-same-length : tie.Need-same-length
-same-length c = search needs
+  -- what is known of the answer, whichever it is
+  known : {a : Answer} → r .read .result ≡ a → reads a (r .read .last .1 .1 .0) ≡ reading (begun .args .file .now) (begun .args .reader) (begun .args .buffer .now)
+  known e = ap (λ (x : Answer). reads x (r .read .last .1 .1 .0)) (sym e) ∙ r .read .ensures
 
 returns : tie.Need-returns
-returns c = call-answered _ _ _ _ (Refused (c .before .n .given .0 .0)) (ap (λ (r : Answer). reads r (c .before .before .before .before .before .read .last .1 .1 .0)) (sym (c .before .n .given .1)) ∙ c .before .before .before .before .before .read .ensures)
-
-same-length-2 : tie.Need-same-length-2
-same-length-2 c = search needs
+returns c =
+    let n : tie.After-n = search in
+    let r : tie.After-read = search in
+    call-answered _ _ _ _ (Refused (n .n .given .0 .0)) (known r (n .n .given .1))
 
 returns-2 : tie.Need-returns-2
-returns-2 c = call-answered _ _ _ _ (Viewed (c .before .n2 .given .0 .0)) (ap (λ (r : Answer). reads r (c .before .before .before .before .before .read .last .1 .1 .0)) (sym (c .before .n2 .given .1)) ∙ c .before .before .before .before .before .read .ensures)
+returns-2 c =
+    let n : tie.After-n2 = search in
+    let r : tie.After-read = search in
+    call-answered _ _ _ _ (Viewed (n .n2 .given .0 .0)) (known r (n .n2 .given .1))
 
 pub nechwalu-read-spec : {M : Type 1} → statement M
 nechwalu-read-spec =
     tie.close
     (tie.spec
-    read-requires
-    enum-known-n
-    enum-known-n-2
-    same-length
+    (search needs)
+    (search needs)
+    (search needs)
+    (search needs)
     returns
-    same-length-2
+    (search needs)
     returns-2)

@@ -1,45 +1,63 @@
--- `script_file::counts_ok` meets its contract: each test that fails is one of the check's.
+-- `script_file::counts_ok` meets its contract: each test that fails is one of the check's. Assumes nothing.
+use mathlib.Core.Bool.{Bool}
+use mathlib.Core.List.{List, [], _∷_}
+use mathlib.Core.Path.{refl}
+use Prim.Native.Nat.{ℕ}
+use lib.Dec.{leb}
+use lib.ListN.{drop}
 use borrow.Author.Tests.{le-leb, lt-leb}
-use Rattle.script_file.specs.Checks.{every, countsOk}
-use Rattle.script_file.proofs.Tests.{last-decides}
+use Rattle.script_file.specs.Checks.{countsOk}
+use Rattle.script_file.specs.declared.Header.{Header}
+use Rattle.script_file.proofs.Tests.{Decide, pass, fail, last}
 use Rattle.script_file.proofs.counts_ok.Statement.{statement}
 use Rattle.script_file.proofs.counts_ok.Tie as tie
 
--- `script_file::counts_ok` meets its contract: each test that fails is one of the check's.
+abbrev tests : Header → List Bool
+tests h =
+    leb 2 (h .labels .count) ∷ leb (h .labels .count) 32 ∷ leb (h .records .count) 64 ∷ leb 1 (h .code .count)
+    ∷ leb (h .code .count) 4096 ∷ leb 1 (h .steps) ∷ leb (h .records .count) (h .places) ∷ leb (h .places) 256 ∷ []
 
-returns : tie.Need-returns
-unfolding countsOk every
-returns c = rw (lt-leb _ _ (c .if1 .taken))
+-- the tests behind the first n decide
+abbrev Behind : ℕ → tie.Start → Type 0
+Behind n s = Decide (drop n (tests (s .args .h))) (countsOk (s .args .h))
 
-returns-2 : tie.Need-returns-2
-unfolding countsOk every
-returns-2 c = rw (le-leb _ _ (c .before .before .if1 .left), lt-leb _ _ (c .if2 .taken))
+start : (s : tie.Start) → Behind 0 s
+unfolding countsOk
+start s = record { is = refl }
 
-returns-3 : tie.Need-returns-3
-unfolding countsOk every
-returns-3 c = rw (le-leb _ _ (c .before .before .before .before .if1 .left), le-leb _ _ (c .before .before .if2 .left), lt-leb _ _ (c .if3 .taken))
+behind1 : (c : tie.Else1) → Behind 1 (search)
+behind1 c = pass (le-leb _ _ (c .if1 .left)) (start (search))
 
-returns-4 : tie.Need-returns-4
-unfolding countsOk every
-returns-4 c = rw (le-leb _ _ (c .before .before .before .before .before .before .if1 .left), le-leb _ _ (c .before .before .before .before .if2 .left), le-leb _ _ (c .before .before .if3 .left), lt-leb _ _ (c .if4 .taken))
+behind2 : (c : tie.Else2) → Behind 2 (search)
+behind2 c = pass (le-leb _ _ (c .if2 .left)) (behind1 (search))
 
-returns-5 : tie.Need-returns-5
-unfolding countsOk every
-returns-5 c = rw (le-leb _ _ (c .before .before .before .before .before .before .before .before .if1 .left), le-leb _ _ (c .before .before .before .before .before .before .if2 .left), le-leb _ _ (c .before .before .before .before .if3 .left), le-leb _ _ (c .before .before .if4 .left), lt-leb _ _ (c .if5 .taken))
+behind3 : (c : tie.Else3) → Behind 3 (search)
+behind3 c = pass (le-leb _ _ (c .if3 .left)) (behind2 (search))
 
-returns-6 : tie.Need-returns-6
-unfolding countsOk every
-returns-6 c = rw (le-leb _ _ (c .before .before .before .before .before .before .before .before .before .before .if1 .left), le-leb _ _ (c .before .before .before .before .before .before .before .before .if2 .left), le-leb _ _ (c .before .before .before .before .before .before .if3 .left), le-leb _ _ (c .before .before .before .before .if4 .left), le-leb _ _ (c .before .before .if5 .left), lt-leb _ _ (c .if6 .taken))
+behind4 : (c : tie.Else4) → Behind 4 (search)
+behind4 c = pass (le-leb _ _ (c .if4 .left)) (behind3 (search))
 
-returns-7 : tie.Need-returns-7
-unfolding countsOk every
-returns-7 c = rw (le-leb _ _ (c .before .before .before .before .before .before .before .before .before .before .before .before .before .if1 .left), le-leb _ _ (c .before .before .before .before .before .before .before .before .before .before .before .if2 .left), le-leb _ _ (c .before .before .before .before .before .before .before .before .before .if3 .left), le-leb _ _ (c .before .before .before .before .before .before .before .if4 .left), le-leb _ _ (c .before .before .before .before .before .if5 .left), le-leb _ _ (c .before .before .before .if6 .left), lt-leb _ _ (c .if7 .taken))
+behind5 : (c : tie.Else5) → Behind 5 (search)
+behind5 c = pass (le-leb _ _ (c .if5 .left)) (behind4 (search))
+
+behind6 : (c : tie.Else6) → Behind 6 (search)
+behind6 c = pass (le-leb _ _ (c .if6 .left)) (behind5 (search))
+
+behind7 : (c : tie.Else7) → Behind 7 (search)
+behind7 c = pass (le-leb _ _ (c .if7 .left)) (behind6 (search))
 
 returns-8 : tie.Need-returns-8
-unfolding countsOk every
-returns-8 c = rw (le-leb _ _ (c .before .before .before .before .before .before .before .before .before .before .before .before .before .before .if1 .left), le-leb _ _ (c .before .before .before .before .before .before .before .before .before .before .before .before .if2 .left), le-leb _ _ (c .before .before .before .before .before .before .before .before .before .before .if3 .left), le-leb _ _ (c .before .before .before .before .before .before .before .before .if4 .left), le-leb _ _ (c .before .before .before .before .before .before .if5 .left), le-leb _ _ (c .before .before .before .before .if6 .left), le-leb _ _ (c .before .if7 .left)) (last-decides _)
+returns-8 c = last (behind7 (search))
 
 pub counts-ok-spec : {M : Type 1} → statement M
 counts-ok-spec =
     tie.close
-    (tie.spec returns returns-2 returns-3 returns-4 returns-5 returns-6 returns-7 returns-8)
+    (tie.spec
+    (λ c. fail (lt-leb _ _ (c .if1 .taken)) (start (search)))
+    (λ c. fail (lt-leb _ _ (c .if2 .taken)) (behind1 (search)))
+    (λ c. fail (lt-leb _ _ (c .if3 .taken)) (behind2 (search)))
+    (λ c. fail (lt-leb _ _ (c .if4 .taken)) (behind3 (search)))
+    (λ c. fail (lt-leb _ _ (c .if5 .taken)) (behind4 (search)))
+    (λ c. fail (lt-leb _ _ (c .if6 .taken)) (behind5 (search)))
+    (λ c. fail (lt-leb _ _ (c .if7 .taken)) (behind6 (search)))
+    returns-8)

@@ -1,38 +1,51 @@
--- `script_file::offsets_ok` meets its contract: each test that fails is one of the check's.
+-- `script_file::offsets_ok` meets its contract: each test that fails is one of the check's. Assumes nothing.
+use mathlib.Core.Bool.{Bool}
+use mathlib.Core.List.{List, [], _∷_}
+use mathlib.Core.Path.{refl}
+use Prim.Native.Nat.{ℕ, _+_, _*_}
+use lib.Dec.{leb, eqb}
+use lib.ListN.{drop}
 use borrow.Author.Tests.{le-leb, lt-leb, eq-eqb, ne-eqb}
-use Rattle.script_file.specs.Checks.{every, offsetsOk}
-use Rattle.script_file.proofs.Tests.{last-decides}
+use Rattle.script_file.specs.Checks.{offsetsOk}
+use Rattle.script_file.specs.declared.Header.{Header}
+use Rattle.script_file.proofs.Tests.{Decide, pass, fail, last}
 use borrow.Author.Needs.{needs}
 use Rattle.script_file.proofs.offsets_ok.Statement.{statement}
 use Rattle.script_file.proofs.offsets_ok.Tie as tie
 
--- `script_file::offsets_ok` meets its contract: each test that fails is one of the check's.
+abbrev tests : Header → ℕ → List Bool
+tests h n =
+    eqb (h .labels .offset) 16 ∷ leb 16 (h .records .offset)
+    ∷ eqb (h .code .offset) (h .records .offset + 6 * h .records .count) ∷ eqb n (h .code .offset + h .code .count) ∷ []
 
-returns : tie.Need-returns
-unfolding offsetsOk every
-returns c = rw (ne-eqb _ _ (c .if1 .taken))
+-- the tests behind the first k decide
+abbrev Behind : ℕ → tie.Start → Type 0
+Behind k s = Decide (drop k (tests (s .args .h) (s .args .n))) (offsetsOk (s .args .h) (s .args .n))
 
-returns-2 : tie.Need-returns-2
-unfolding offsetsOk every
-returns-2 c = rw (eq-eqb _ _ (c .before .before .if1 .left), lt-leb _ _ (c .if2 .taken))
+start : (s : tie.Start) → Behind 0 s
+unfolding offsetsOk
+start s = record { is = refl }
 
-mul-if3 : tie.Need-mul-if3
-mul-if3 c = search needs
+behind1 : (c : tie.Else1) → Behind 1 (search)
+behind1 c = pass (eq-eqb _ _ (c .if1 .left)) (start (search))
 
-add-if3 : tie.Need-add-if3
-add-if3 c = search needs
+behind2 : (c : tie.Else2) → Behind 2 (search)
+behind2 c = pass (le-leb _ _ (c .if2 .left)) (behind1 (search))
 
-returns-3 : tie.Need-returns-3
-unfolding offsetsOk every
-returns-3 c = rw (eq-eqb _ _ (c .before .before .before .before .before .before .if1 .left), le-leb _ _ (c .before .before .before .before .if2 .left), ne-eqb _ _ (c .if3 .taken))
-
-add-result : tie.Need-add-result
-add-result c = search needs
+behind3 : (c : tie.Else3) → Behind 3 (search)
+behind3 c = pass (eq-eqb _ _ (c .if3 .left)) (behind2 (search))
 
 returns-4 : tie.Need-returns-4
-unfolding offsetsOk every
-returns-4 c = rw (eq-eqb _ _ (c .before .before .before .before .before .before .before .if1 .left), le-leb _ _ (c .before .before .before .before .before .if2 .left), eq-eqb _ _ (c .before .if3 .left)) (last-decides _)
+returns-4 c = last (behind3 (search))
 
 pub offsets-ok-spec : {M : Type 1} → statement M
 offsets-ok-spec =
-    tie.close (tie.spec returns returns-2 mul-if3 add-if3 returns-3 add-result returns-4)
+    tie.close
+    (tie.spec
+    (λ c. fail (ne-eqb _ _ (c .if1 .taken)) (start (search)))
+    (λ c. fail (lt-leb _ _ (c .if2 .taken)) (behind1 (search)))
+    (search needs)
+    (search needs)
+    (λ c. fail (ne-eqb _ _ (c .if3 .taken)) (behind2 (search)))
+    (search needs)
+    returns-4)

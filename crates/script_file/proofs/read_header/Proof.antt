@@ -1,40 +1,28 @@
--- `script_file::read_header` meets its contract.
+-- `script_file::read_header` meets its contract: each part as it is read. Assumes nothing.
 use Rattle.script_file.specs.Sections.{header}
 use borrow.Author.Needs.{needs}
 use Rattle.script_file.proofs.read_header.Statement.{statement}
 use Rattle.script_file.proofs.read_header.Tie as tie
 
--- `script_file::read_header` meets its contract.
-
-section-at-requires : tie.Need-section-at-requires
-section-at-requires c κs = search needs
-
-section-at-requires-2 : tie.Need-section-at-requires-2
-section-at-requires-2 c κs = search needs
-
-section-at-requires-3 : tie.Need-section-at-requires-3
-section-at-requires-3 c κs = search needs
-
-number-at-requires : tie.Need-number-at-requires
-number-at-requires c κs = search needs
-
-number-at-requires-2 : tie.Need-number-at-requires-2
-number-at-requires-2 c κs = search needs
-
 returns : tie.Need-returns
 unfolding header
-returns c = (
-  rw (c .before .before .before .before .section-at .ensures .0, c .before .before .before .section-at2 .ensures .0, c .before .before .section-at3 .ensures .0, c .before .number-at .ensures .0, c .number-at2 .ensures .0),
-  record { records = c .before .before .before .section-at2 .ensures .1; code = c .before .before .section-at3 .ensures .1 },
-)
+returns c =
+    let places : tie.After-number-at2 = search in
+    let steps : tie.After-number-at = search in
+    let code : tie.After-section-at3 = search in
+    let records : tie.After-section-at2 = search in
+    let labels : tie.After-section-at = search in (
+      rw (labels .section-at .ensures .0, records .section-at2 .ensures .0, code .section-at3 .ensures .0, steps .number-at .ensures .0, places .number-at2 .ensures .0),
+      record { records = records .section-at2 .ensures .1; code = code .section-at3 .ensures .1 },
+    )
 
 pub read-header-spec : {M : Type 1} → statement M
 read-header-spec =
     tie.close
     (tie.spec
-    section-at-requires
-    section-at-requires-2
-    section-at-requires-3
-    number-at-requires
-    number-at-requires-2
+    (λ c κs. search needs)
+    (λ c κs. search needs)
+    (λ c κs. search needs)
+    (λ c κs. search needs)
+    (λ c κs. search needs)
     returns)

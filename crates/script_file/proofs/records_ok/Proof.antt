@@ -1,14 +1,14 @@
--- `script_file::records_ok` meets its contract: what is left of the records decides.
+-- `script_file::records_ok` meets its contract: what is left of the records decides. Assumes nothing.
+use mathlib.Core.List.{List}
 use mathlib.Core.Path.{_≡_, sym, ap, _∙_}
 use Prim.Native.Nat.{ℕ, suc, _+_, _-_, _*_, _≤_}
 use native.Mathlib.Omega.{arith}
+use Rattle.model.specs.Decoding.{byte}
 use Rattle.script_file.specs.Checks.{recordsOk}
 use Rattle.script_file.proofs.Records.{kind-stops, label-stops, next-record}
 use borrow.Author.Needs.{needs}
 use Rattle.script_file.proofs.records_ok.Statement.{statement}
 use Rattle.script_file.proofs.records_ok.Tie as tie
-
--- `script_file::records_ok` meets its contract: what is left of the records decides.
 
 abbrev Inv-loop : tie.InvT-loop
 Inv-loop bytes count labels i₀ i = (i ≤ count) × (recordsOk labels bytes count 0 ≡ recordsOk labels bytes (count - i) (6 * i))
@@ -16,64 +16,83 @@ Inv-loop bytes count labels i₀ i = (i ≤ count) × (recordsOk labels bytes co
 abbrev μ-loop : tie.MeasureT-loop
 μ-loop bytes count labels i₀ i = count - i
 
+-- the loop's head, and a turn
+abbrev Head : Type 0
+Head = tie.At-loop Inv-loop μ-loop
+
+abbrev In : Type 0
+In = tie.In-loop Inv-loop μ-loop
+
+module _ (h : Head) where
+  abbrev begun : tie.Start Inv-loop μ-loop
+  begun = search
+
+  abbrev bs : List ℕ
+  bs = begun .args .bytes .now
+
+  abbrev l : ℕ
+  l = begun .args .labels
+
+  abbrev n : ℕ
+  n = begun .args .count
+
+  abbrev i : ℕ
+  i = h .loop .i
+
+  -- the records that are left decide
+  left : (k : ℕ) → n - i ≡ k → recordsOk l bs n 0 ≡ recordsOk l bs k (6 * i)
+  left k e = h .loop .inv .1 ∙ ap (λ (j : ℕ). recordsOk l bs j (6 * i)) e
+
+  abbrev behind : ℕ
+  behind = n - (i + 1)
+
+module _ (p : In) where
+  abbrev head : Head
+  head = search
+
+  small : i head + 1 ≤ n head
+  small = omega (arith, p .loop-test .taken)
+
+  here : recordsOk (l head) (bs head) (n head) 0 ≡ recordsOk (l head) (bs head) (suc (behind head)) (6 * i head)
+  here = left head (suc (behind head)) (omega (arith, small))
+
+kind : (e : tie.Else1 Inv-loop μ-loop) → byte (bs (search)) (6 * i (search)) ≤ 1
+kind e = let a : tie.After-byte-at Inv-loop μ-loop = search in omega (arith, a .byte-at .ensures, e .if1 .left)
+
+-- ── the answers ──
+
 loop-holds : tie.Need-loop-holds Inv-loop μ-loop
-loop-holds c = let whole : c .before .args .count - 0 ≡ c .before .args .count = omega arith in
-    (omega arith, ap (λ (k : ℕ). recordsOk (c .before .args .labels) (c .before .args .bytes .now) k 0) (sym whole))
-
-mul-at : tie.Need-mul-at Inv-loop μ-loop
-mul-at c = omega arith
-
-byte-at-requires : tie.Need-byte-at-requires Inv-loop μ-loop
-byte-at-requires c κs = search needs
+loop-holds c =
+    let b : tie.Start Inv-loop μ-loop = search in
+    let whole : b .args .count - 0 ≡ b .args .count = omega arith in
+    (omega arith, ap (λ (k : ℕ). recordsOk (b .args .labels) (b .args .bytes .now) k 0) (sym whole))
 
 returns : tie.Need-returns Inv-loop μ-loop
-returns c = let bs = c .before .before .before .before .before .args .bytes .now in
-    let l = c .before .before .before .before .before .args .labels in
-    let n = c .before .before .before .before .before .args .count in
-    let i = c .before .before .before .loop .i in
-    let left : n - i ≡ suc (n - (i + 1)) = omega arith in
-    sym (c .before .before .before .loop .inv .1 ∙ ap (λ (k : ℕ). recordsOk l bs k (6 * i)) left ∙ kind-stops l bs (n - (i + 1)) (6 * i) (rw (c .before .byte-at .ensures) at (c .if1 .taken)))
-
-add-index-at : tie.Need-add-index-at Inv-loop μ-loop
-add-index-at c = omega arith
-
-index-at-requires : tie.Need-index-at-requires Inv-loop μ-loop
-index-at-requires c κs = search needs
+returns c =
+    let a : tie.After-byte-at Inv-loop μ-loop = search in
+    let h : Head = search in
+    sym (here (search) ∙ kind-stops (l h) (bs h) (behind h) (6 * i h) (omega (arith, a .byte-at .ensures, c .if1 .taken)))
 
 returns-2 : tie.Need-returns-2 Inv-loop μ-loop
-returns-2 c = let bs = c .before .before .before .before .before .before .before .args .bytes .now in
-    let l = c .before .before .before .before .before .before .before .args .labels in
-    let n = c .before .before .before .before .before .before .before .args .count in
-    let i = c .before .before .before .before .before .loop .i in
-    let left : n - i ≡ suc (n - (i + 1)) = omega arith in
-    sym (c .before .before .before .before .before .loop .inv .1 ∙ ap (λ (k : ℕ). recordsOk l bs k (6 * i)) left ∙ label-stops l bs (n - (i + 1)) (6 * i) (rw (c .before .before .before .byte-at .ensures) at (c .before .before .if1 .left)) (rw (c .before .index-at .ensures) at (c .if2 .taken)))
-
-add-i : tie.Need-add-i Inv-loop μ-loop
-add-i c = omega arith
-
-loop-less : tie.Need-loop-less Inv-loop μ-loop
-loop-less c = omega arith
+returns-2 c =
+    let a : tie.After-index-at Inv-loop μ-loop = search in
+    let h : Head = search in
+    sym (here (search) ∙ label-stops (l h) (bs h) (behind h) (6 * i h) (kind (search)) (omega (arith, a .index-at .ensures, c .if2 .taken)))
 
 loop-again : tie.Need-loop-again Inv-loop μ-loop
-loop-again c = let bs = c .before .before .before .before .before .before .before .args .bytes .now in
-    let l = c .before .before .before .before .before .before .before .args .labels in
-    let n = c .before .before .before .before .before .before .before .args .count in
-    let i = c .before .before .before .before .before .loop .i in
-    let left : n - i ≡ suc (n - (i + 1)) = omega arith in
-    let next : 6 * i + 6 ≡ 6 * (i + 1) = omega arith in (
-      omega arith,
-      c .before .before .before .before .before .loop .inv .1 ∙ ap (λ (k : ℕ). recordsOk l bs k (6 * i)) left ∙ next-record l bs (n - (i + 1)) (6 * i) (rw (c .before .before .before .byte-at .ensures) at (c .before .before .if1 .left)) (rw (c .before .index-at .ensures) at (c .if2 .left))
-          ∙ ap (recordsOk l bs (n - (i + 1))) next,
+loop-again c =
+    let a : tie.After-index-at Inv-loop μ-loop = search in
+    let h : Head = search in
+    let next : 6 * i h + 6 ≡ 6 * (i h + 1) = omega arith in (
+      small (search),
+      here (search)
+          ∙ next-record (l h) (bs h) (behind h) (6 * i h) (kind (search)) (omega (arith, a .index-at .ensures, c .if2 .left))
+          ∙ ap (recordsOk (l h) (bs h) (behind h)) next,
     )
 
 returns-3 : tie.Need-returns-3 Inv-loop μ-loop
 unfolding recordsOk
-returns-3 c = let bs = c .before .before .before .args .bytes .now in
-    let l = c .before .before .before .args .labels in
-    let n = c .before .before .before .args .count in
-    let i = c .before .loop .i in
-    let left : n - i ≡ 0 = omega arith in
-    sym (c .before .loop .inv .1 ∙ ap (λ (k : ℕ). recordsOk l bs k (6 * i)) left)
+returns-3 c = sym (left (search) 0 (omega (arith, c .loop-test .left)))
 
 pub records-ok-spec : {M : Type 1} → statement M
 records-ok-spec =
@@ -82,13 +101,13 @@ records-ok-spec =
     Inv-loop
     μ-loop
     loop-holds
-    mul-at
-    byte-at-requires
+    (λ c. omega (arith, small (search), begun (search) .pre))
+    (λ c κs. search needs)
     returns
-    add-index-at
-    index-at-requires
+    (λ c. search needs)
+    (λ c κs. search needs)
     returns-2
-    add-i
-    loop-less
+    (λ c. search needs)
+    (λ c. omega (arith, small (search)))
     loop-again
     returns-3)

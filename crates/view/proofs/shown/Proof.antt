@@ -5,18 +5,13 @@ use borrow.Author.Needs.{needs}
 use Rattle.view.proofs.shown.Statement.{statement}
 use Rattle.view.proofs.shown.Tie as tie
 
-enum-told : tie.Need-enum-told
-enum-told c = search needs
-
-enum-known-slot : tie.Need-enum-known-slot
-enum-known-slot c = search needs
-
-flows-requires : tie.Need-flows-requires
-flows-requires c κs = search needs
-
 returns : tie.Need-returns
 unfolding shown
-returns c = rw (c .before .before .before .before .slot .given .1, sym (c .before .flows .ensures) ∙ c .if1 .taken)
+returns c =
+    let test : tie.Then1 = search in
+    let flow : tie.After-flows = search in
+    let full : tie.After-slot = search in
+    rw (full .slot .given .1, sym (flow .flows .ensures) ∙ test .if1 .taken)
 
 returns-2 : tie.Need-returns-2
 unfolding shown
@@ -24,8 +19,11 @@ returns-2 c = rw (c .enum-told .given .1)
 
 returns-3 : tie.Need-returns-3
 unfolding shown
-returns-3 c = rw (c .before .before .before .before .slot .given .1, sym (c .before .flows .ensures) ∙ c .if1 .left)
+returns-3 c =
+    let test : tie.Else1 = search in
+    let flow : tie.After-flows = search in
+    let full : tie.After-slot = search in
+    rw (full .slot .given .1, sym (flow .flows .ensures) ∙ test .if1 .left)
 
 pub shown-spec : {M : Type 1} → statement M
-shown-spec =
-    tie.close (tie.spec enum-told enum-known-slot flows-requires returns returns-2 returns-3)
+shown-spec = tie.close (tie.spec (search needs) (search needs) (search needs) returns returns-2 returns-3)

@@ -1,122 +1,100 @@
 -- `view::write_view` meets its contract. Assumes nothing.
-use mathlib.Core.Path.{_≡_, refl, sym, ap}
-use mathlib.Core.List.{_++_}
+use mathlib.Core.Bool.{Bool}
+use mathlib.Core.Path.{_≡_, sym, ap, _∙_}
+use mathlib.Core.List.{List, _++_}
 use native.Mathlib.Omega.{arith}
 use Prim.Native.Nat.{ℕ, _+_, _*_, _≤_}
 use lib.ListN.{length}
+use Rattle.labels.specs.declared.Label.{Label}
+use Rattle.model.specs.State.{Store}
 use Rattle.store.specs.Slots.{slots}
 use Rattle.view.specs.Layout.{recordFields, recordsShown, counts, final, viewLength, view}
-use Rattle.view_fields.specs.Writing.{numbers}
+use Rattle.view_fields.specs.Writing.{over, numbers}
 use Rattle.view.specs.Writing.{closing, finished, reads as reading}
-use Rattle.view_fields.proofs.Buffers.{first, piece, last}
+use Rattle.view.specs.declared.Finish.{Finish}
+use Rattle.view_fields.proofs.Buffers.{four}
 use Rattle.view_fields.proofs.Widths.{length-numbers}
 use Rattle.view.proofs.Widths.{length-counts, length-final, length-records, view-parts}
 use borrow.Author.Needs.{needs}
 use Rattle.view.proofs.write_view.Statement.{statement}
 use Rattle.view.proofs.write_view.Tie as tie
 
-records-shown-requires : tie.Need-records-shown-requires
-records-shown-requires c κs = search needs
+-- the parts of the view
+module _ (c : tie.After-records-shown) where
+  abbrev begun : tie.Start
+  begun = search
 
-write-counts-requires : tie.Need-write-counts-requires
-unfolding viewLength
-write-counts-requires c κs = search needs
+  abbrev R : Label → Bool
+  R = reading (begun .args .reader)
 
-mul-write-numbers : tie.Need-mul-write-numbers
-mul-write-numbers c = search needs
+  abbrev f : Finish
+  f = begun .args .finish
 
-add-write-numbers : tie.Need-add-write-numbers
-add-write-numbers c = search needs
+  abbrev σ : Store
+  σ = slots (begun .args .store .now)
 
-sub-write-numbers : tie.Need-sub-write-numbers
-unfolding viewLength
-sub-write-numbers c = search needs
+  abbrev out : List ℕ
+  out = begun .args .out .now
 
-part-write-numbers-start : tie.Need-part-write-numbers-start
-unfolding viewLength
-part-write-numbers-start c = search needs
+  abbrev n : ℕ
+  n = c .records-shown .result
 
-part-write-numbers-end : tie.Need-part-write-numbers-end
-part-write-numbers-end c = search needs
+  abbrev front : List ℕ
+  front = counts R (begun .args .steps) (f .ending) (closing f)
 
-write-numbers-requires : tie.Need-write-numbers-requires
-unfolding viewLength
-write-numbers-requires c κs = search needs
+  abbrev middle : List ℕ
+  middle = numbers n 62 (62 + 36 * n)
 
-sub-write-final : tie.Need-sub-write-final
-unfolding viewLength
-sub-write-final c = search needs
+  abbrev closes : List ℕ
+  closes = final R (f .ending) (closing f)
 
-part-write-final-start : tie.Need-part-write-final-start
-unfolding viewLength
-part-write-final-start c = search needs
+  abbrev records : List ℕ
+  records = recordFields R 0 σ
 
-part-write-final-end : tie.Need-part-write-final-end
-part-write-final-end c = search needs
+  whole : view R (begun .args .steps) (finished f σ) ≡ front ++ (middle ++ (closes ++ records))
+  unfolding viewLength
+  whole = view-parts R (begun .args .steps) (finished f σ) ∙ ap (λ (k : ℕ). front ++ (numbers k 62 (62 + 36 * k) ++ (closes ++ records))) (sym (c .records-shown .ensures .1))
 
-write-final-requires : tie.Need-write-final-requires
-unfolding viewLength
-write-final-requires c κs = search needs
-
-sub-write-records : tie.Need-sub-write-records
-unfolding viewLength
-sub-write-records c = search needs
-
-part-write-records-start : tie.Need-part-write-records-start
-unfolding viewLength
-part-write-records-start c = search needs
-
-part-write-records-end : tie.Need-part-write-records-end
-part-write-records-end c = search needs
+  room : 62 + 36 * recordsShown R σ ≤ length out
+  unfolding viewLength
+  room = begun .pre .1
 
 write-records-requires : tie.Need-write-records-requires
-unfolding viewLength
-write-records-requires c κs =
-    let a = c .before .before .before .before .before .before .before .before .before .before .before .before .before .before .before .before .args in
-    let h : 62 + 36 * recordsShown (reading (a .reader)) (slots (a .store .now)) ≤ length (a .out .now) = c .before .before .before .before .before .before .before .before .before .before .before .before .before .before .before .before .pre .1 in
-    (c .before .before .before .before .before .before .before .before .before .before .before .before .before .before .before .before .pre .0, omega (arith, h))
-
-same-length : tie.Need-same-length
-same-length c = search needs
+write-records-requires c κs = let s : tie.After-records-shown = search in (begun s .pre .0, omega (arith, room s))
 
 returns : tie.Need-returns
-unfolding viewLength
 returns c =
-    let a = c .before .before .before .before .before .before .before .before .before .before .before .before .before .before .before .before .before .before .before .args in
-    let R = reading (a .reader) in
-    let f = a .finish in
-    let σ = slots (a .store .now) in
-    let h : 62 + 36 * recordsShown R σ ≤ length (a .out .now) = c .before .before .before .before .before .before .before .before .before .before .before .before .before .before .before .before .before .before .before .pre .1 in
-    let n = c .before .before .before .before .before .before .before .before .before .before .before .before .before .before .before .before .records-shown .result in
-    let e : n ≡ recordsShown R σ = c .before .before .before .before .before .before .before .before .before .before .before .before .before .before .before .before .records-shown .ensures .1 in
-    let closes = final R (f .ending) (closing f) in
-    let records = recordFields R 0 σ in
-    let first-part = first (view R (a .steps) (finished f σ)) (counts R (a .steps) (f .ending) (closing f)) (numbers (recordsShown R σ) 62 (62 + 36 * recordsShown R σ) ++ (closes ++ records)) (a .out .now)
-    (view-parts R (a .steps) (finished f σ)) 6 (length-counts R (a .steps) (f .ending) (closing f)) (omega (arith, h)) _ (c .before .before .before .before .before .before .before .before .before .before .before .before .before .before .write-counts .ensures) in
-    let numbers-part = piece first-part (numbers n 62 (62 + 36 * n)) (closes ++ records)
-    (ap (λ (k : ℕ). numbers k 62 (62 + 36 * k) ++ (closes ++ records)) (sym e)) 6 (length-numbers n 62 (62 + 36 * n)) (omega (arith, h)) _ (c .before .before .before .before .before .before .before .before .before .before .write-numbers .ensures) in
-    let final-part = piece numbers-part closes records refl 50 (length-final R 0 (f .ending) (closing f)) (omega (arith, h)) _ (c .before .before .before .before .before .before .write-final .ensures) in
-    last final-part (36 * recordsShown R σ) (length-records R 0 σ) h _ (c .before .before .write-records .ensures)
+    let fourth : tie.After-write-records = search in
+    let third : tie.After-write-final = search in
+    let second : tie.After-write-numbers = search in
+    let first : tie.After-write-counts = search in
+    let s : tie.After-records-shown = search in
+    four (front s) (middle s) (closes s) (records s) (out s)
+    (length-counts (R s) (f s .ending) (closing (f s)) (begun s .args .steps)) (length-numbers (n s) 62 (62 + 36 * n s))
+    (length-final (R s) (f s .ending) (closing (f s))) (length-records (R s) 0 (σ s)) (room s)
+    (first .write-counts .ensures) (second .write-numbers .ensures) (third .write-final .ensures) (fourth .write-records .ensures)
+    ∙ ap (λ (v : List ℕ). over v (out s)) (sym (whole s))
 
 pub write-view-spec : {M : Type 1} → statement M
+unfolding viewLength
 write-view-spec =
     tie.close
     (tie.spec
-    records-shown-requires
-    write-counts-requires
-    mul-write-numbers
-    add-write-numbers
-    sub-write-numbers
-    part-write-numbers-start
-    part-write-numbers-end
-    write-numbers-requires
-    sub-write-final
-    part-write-final-start
-    part-write-final-end
-    write-final-requires
-    sub-write-records
-    part-write-records-start
-    part-write-records-end
+    (search needs)
+    (search needs)
+    (search needs)
+    (search needs)
+    (search needs)
+    (search needs)
+    (search needs)
+    (search needs)
+    (search needs)
+    (search needs)
+    (search needs)
+    (search needs)
+    (search needs)
+    (search needs)
+    (search needs)
     write-records-requires
-    same-length
+    (search needs)
     returns)

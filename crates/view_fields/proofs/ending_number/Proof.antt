@@ -1,17 +1,8 @@
--- `view::ending_number` meets its contract. Assumes nothing.
+-- `view_fields::ending_number` meets its contract. Assumes nothing.
 use Rattle.view_fields.specs.Fields.{endingNumber}
 use borrow.Author.Needs.{needs}
 use Rattle.view_fields.proofs.ending_number.Statement.{statement}
 use Rattle.view_fields.proofs.ending_number.Tie as tie
-
-enum-told : tie.Need-enum-told
-enum-told c = search needs
-
-enum-told-2 : tie.Need-enum-told-2
-enum-told-2 c = search needs
-
-enum-told-3 : tie.Need-enum-told-3
-enum-told-3 c = search needs
 
 returns : tie.Need-returns
 unfolding endingNumber
@@ -26,5 +17,4 @@ unfolding endingNumber
 returns-3 c = rw (c .enum-told3 .given .1)
 
 pub ending-number-spec : {M : Type 1} → statement M
-ending-number-spec =
-    tie.close (tie.spec enum-told enum-told-2 enum-told-3 returns returns-2 returns-3)
+ending-number-spec = tie.close (tie.spec (search needs) (search needs) (search needs) returns returns-2 returns-3)

@@ -1,14 +1,8 @@
--- `view::kind_byte` meets its contract. Assumes nothing.
+-- `view_fields::kind_byte` meets its contract. Assumes nothing.
 use Rattle.view_fields.specs.Fields.{kindByte}
 use borrow.Author.Needs.{needs}
 use Rattle.view_fields.proofs.kind_byte.Statement.{statement}
 use Rattle.view_fields.proofs.kind_byte.Tie as tie
-
-enum-told : tie.Need-enum-told
-enum-told c = search needs
-
-enum-told-2 : tie.Need-enum-told-2
-enum-told-2 c = search needs
 
 returns : tie.Need-returns
 unfolding kindByte
@@ -19,4 +13,4 @@ unfolding kindByte
 returns-2 c = rw (c .enum-told2 .given .1)
 
 pub kind-byte-spec : {M : Type 1} → statement M
-kind-byte-spec = tie.close (tie.spec enum-told enum-told-2 returns returns-2)
+kind-byte-spec = tie.close (tie.spec (search needs) (search needs) returns returns-2)
