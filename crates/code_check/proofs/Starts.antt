@@ -5,7 +5,7 @@ use mathlib.Core.Path.{_≡_, refl, sym, ap, _∙_}
 use Prim.Native.Nat.{ℕ, zero, suc, _+_, _≤_, _<_}
 use native.Mathlib.Omega.{arith}
 use lib.Dec.{ltb, eqb}
-use lib.ListN.{length, getD, set, replicate, length-set}
+use lib.ListN.{length, getD, set, replicate, length-set, length-replicate}
 use lib.Seq.{getD-set-same, getD-set-other}
 use borrow.Author.Tests.{ltb-true, eqb-true, eqb-false, lt-ltb, le-ltb, le-leb, lt-leb}
 use Rattle.model.specs.Decoding.{byte, known, size, fetch, after}
@@ -73,11 +73,13 @@ module _ (code : List ℕ) (t : ℕ) where
         ∙ sym (or-assoc later (eqb t i) (getD ms t false)) ∙ ap (λ (x : Bool). x || getD ms t false) (or-comm later (eqb t i))
     go false e r = refl
 
-pub starts-marked : (code : List ℕ) (n : ℕ) → length code ≤ length (replicate n false) → Marks (mark (starts code) (replicate n false)) (starts code)
+pub starts-marked : (code : List ℕ) (n : ℕ) → length code ≤ n → (ms : List Bool) → ms ≡ mark (starts code) (replicate n false) → Marks ms (starts code)
 unfolding starts
-starts-marked code n h =
+starts-marked code n h ms e =
+    let long : length code ≤ length (replicate n false) = rw length-replicate h in
     record {
-      at = λ t. marked code t (length code) 0 (replicate n false) h ∙ ap (λ (x : Bool). among t (from code 0) || x) (blank n t false) ∙ or-false (among t (from code 0));
+      at = λ t. ap (λ (bs : List Bool). getD bs t false) e ∙ marked code t (length code) 0 (replicate n false) long
+          ∙ ap (λ (x : Bool). among t (from code 0) || x) (blank n t false) ∙ or-false (among t (from code 0));
     }
 
 -- ── the instructions ──
@@ -94,14 +96,14 @@ module _ (l c : ℕ) (code : List ℕ) (i : ℕ) (inside : i < length code) wher
   unknown-stops k = rw (first, k)
 
   module _ (k : known (byte code i) ≡ true) where
-    pub cut-stops : length code < after code i → false ≡ all (instrOk l c code) (from code i)
-    unfolding instrOk after
-    cut-stops h = rw (first, k, lt-leb (i + size (byte code i)) (length code) (rw (lt-ltb i (length code) inside) at h))
+    pub cut-stops : length code < i + size (byte code i) → false ≡ all (instrOk l c code) (from code i)
+    unfolding instrOk
+    cut-stops h = rw (first, k, lt-leb (i + size (byte code i)) (length code) h)
 
-    pub operands-stop : after code i ≤ length code → operandsOk l c (starts code) (fetch code i) ≡ false → false ≡ all (instrOk l c code) (from code i)
-    unfolding instrOk after
-    operands-stop h o = rw (first, k, le-leb (i + size (byte code i)) (length code) (rw (lt-ltb i (length code) inside) at h), o)
+    pub operands-stop : i + size (byte code i) ≤ length code → operandsOk l c (starts code) (fetch code i) ≡ false → false ≡ all (instrOk l c code) (from code i)
+    unfolding instrOk
+    operands-stop h o = rw (first, k, le-leb (i + size (byte code i)) (length code) h, o)
 
-    pub goes-on : after code i ≤ length code → operandsOk l c (starts code) (fetch code i) ≡ true → all (instrOk l c code) (from code i) ≡ all (instrOk l c code) (from code (after code i))
-    unfolding instrOk after
-    goes-on h o = rw (first, k, le-leb (i + size (byte code i)) (length code) (rw (lt-ltb i (length code) inside) at h), o, lt-ltb i (length code) inside)
+    pub goes-on : i + size (byte code i) ≤ length code → operandsOk l c (starts code) (fetch code i) ≡ true → all (instrOk l c code) (from code i) ≡ rest
+    unfolding instrOk
+    goes-on h o = rw (first, k, le-leb (i + size (byte code i)) (length code) h, o)

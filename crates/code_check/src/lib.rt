@@ -4,9 +4,10 @@ ghost use mathlib.Core.Path.{_≡_};
 ghost use mathlib.Core.Bool.{false};
 ghost use Prim.Native.Nat.{_≤_, _<_, _^_};
 ghost use lib.ListN.{length, getD};
+ghost use Rattle.model.specs.declared.Instr.the-variants.{End};
+ghost use Rattle.model.specs.Decoding.{instrs};
 ghost use Rattle.code_check.specs.Sweep.{starts, all, lastOf, instrOk, mayBeLast, codeOk};
 ghost use Rattle.code_check.specs.Marks.{mark, Marks, OperandsIn};
-use model::Instr;
 
 // Marks the instruction starts, by one sweep, and gives the last.
 fn mark_starts(code: &[u8], marks: &mut [bool]) -> usize
@@ -32,41 +33,22 @@ fn is_start(marks: &[bool], t: usize) -> bool
     false
 }
 
-// Whether the operands are within their limits, in a file of `labels` labels and `inputs` input records.
-fn operands_ok(i: Instr, marks: &[bool], labels: usize, inputs: usize) -> bool
-    ensures { λ r. ⌜ OperandsIn labels inputs (now (marks .entry)) i r ⌝ }
+// Whether the operands of `op`, which stand at `i`, are within their limits, in a file of `labels` labels and `inputs` input
+// records. By the opcode: `decode`, called at a second place, would not be inlined in the machine's loop.
+fn operands_ok(code: &[u8], op: u8, i: usize, marks: &[bool], labels: usize, inputs: usize) -> bool
+    requires { ⌜ i < 2 ^ 32 ⌝ }
+    ensures { λ r. ⌜ OperandsIn labels inputs (now (marks .entry)) (getD (instrs (now (code .entry)) i) op End) r ⌝ }
 {
-    match i {
-        Instr::End => true,
-        Instr::Push(_) => true,
-        Instr::Lab(n) => n < labels,
-        Instr::Get(n) => n <= 15,
-        Instr::Set(n) => n <= 15,
-        Instr::Pop => true,
-        Instr::Add => true,
-        Instr::Sub => true,
-        Instr::Less => true,
-        Instr::Same => true,
-        Instr::Jump(t) => is_start(marks, t),
-        Instr::Ifz(t) => is_start(marks, t),
-        Instr::Cur => true,
-        Instr::Clr => true,
-        Instr::Raise => true,
-        Instr::Lower => true,
-        Instr::Flows => true,
-        Instr::Join => true,
-        Instr::Meet => true,
-        Instr::Seal => true,
-        Instr::Open => true,
-        Instr::Labof => true,
-        Instr::New => true,
-        Instr::Read => true,
-        Instr::Write => true,
-        Instr::Block(t, _, _) => is_start(marks, t),
-        Instr::Try(t) => is_start(marks, t),
-        Instr::Done => true,
-        Instr::Throw => true,
-        Instr::Input(n) => n < inputs,
+    match op {
+        2 => decode::index_at(code, i) < labels,
+        3 => decode::index_at(code, i) <= 15,
+        4 => decode::index_at(code, i) <= 15,
+        10 => is_start(marks, decode::target_at(code, i)),
+        11 => is_start(marks, decode::target_at(code, i)),
+        25 => is_start(marks, decode::target_at(code, i)),
+        26 => is_start(marks, decode::target_at(code, i)),
+        29 => decode::index_at(code, i) < inputs,
+        _ => true,
     }
 }
 
@@ -77,18 +59,18 @@ fn instrs_ok(code: &[u8], marks: &[bool], labels: usize, inputs: usize) -> bool
 {
     let mut i: usize = 0;
     while i < code.len() {
-        if !decode::known(code[i]) {
+        let op = code[i];
+        if !decode::known(op) {
             return false;
         }
-        let d = decode::decode(code, i);
-        let instr = d.instr;
-        if code.len() < d.after {
+        let after = i + decode::size_of(op);
+        if code.len() < after {
             return false;
         }
-        if !operands_ok(instr, marks, labels, inputs) {
+        if !operands_ok(code, op, i + 1, marks, labels, inputs) {
             return false;
         }
-        i = d.after;
+        i = after;
     }
     true
 }

@@ -1,46 +1,10 @@
-// Instruction decoding: one decoder for the file's checks and for the machine.
+// Instruction decoding, for the file's checks and for the machine.
 ghost use mathlib.Core.Path.{_≡_};
 ghost use Prim.Native.Nat.{_<_, _^_};
 ghost use lib.ListN.{length, getD};
 ghost use Rattle.model.specs.declared.Instr.the-variants.{End};
 ghost use Rattle.model.specs.Decoding.{byte, u16, u32, known, size, instrs, fetch, after};
-ghost use Rattle.model.specs.Operands.{arity};
-use model::Arity;
 use model::Instr;
-
-// How many operand bytes follow each opcode, 00 to 1D: the only place where the lengths stand.
-const OPERAND_BYTES: [u8; 30] = [
-    0,
-    4,
-    1,
-    1,
-    1,
-    0,
-    0,
-    0,
-    0,
-    0,
-    2,
-    2,
-    0,
-    0,
-    0,
-    0,
-    0,
-    0,
-    0,
-    0,
-    0,
-    0,
-    0,
-    0,
-    0,
-    5,
-    2,
-    0,
-    0,
-    1,
-];
 
 pub struct Decoded {
     pub instr: Instr,
@@ -82,15 +46,22 @@ pub fn known(op: u8) -> bool
     op < 30
 }
 
-// The bytes of an instruction, by its opcode.
+// The bytes of an instruction, by its opcode: the only place where the lengths stand.
 pub fn size_of(op: u8) -> usize
     ensures { λ r. ⌜ r ≡ size op ⌝ }
 {
-    let k = op as usize;
-    if k < 30 {
-        return 1 + OPERAND_BYTES[k] as usize;
+    match op {
+        1 => 5,
+        2 => 2,
+        3 => 2,
+        4 => 2,
+        10 => 3,
+        11 => 3,
+        25 => 6,
+        26 => 3,
+        29 => 2,
+        _ => 1,
     }
-    1
 }
 
 // An operand of one byte, and one of two, as an index.
@@ -100,7 +71,7 @@ pub fn index_at(s: &[u8], i: usize) -> usize
     byte_at(s, i) as usize
 }
 
-fn target_at(s: &[u8], i: usize) -> usize
+pub fn target_at(s: &[u8], i: usize) -> usize
     requires { ⌜ i < 2 ^ 40 ⌝ }
     ensures { λ r. ⌜ r ≡ u16 (now (s .entry)) i ⌝ }
 {
@@ -166,49 +137,5 @@ pub fn decode(code: &[u8], pc: usize) -> Decoded
     Decoded {
         instr: instr_at(code, op, pc + 1),
         after: pc + size_of(op),
-    }
-}
-
-fn arity_of(takes: usize, leaves: usize) -> Arity
-    ensures { λ r. ⌜ r ≡ record { takes = takes; leaves = leaves } ⌝ }
-{
-    Arity { takes, leaves }
-}
-
-// How many values an instruction takes and leaves.
-pub fn arity(i: Instr) -> Arity
-    ensures { λ r. ⌜ r ≡ arity i ⌝ }
-{
-    match i {
-        Instr::End => arity_of(1, 0),
-        Instr::Push(_) => arity_of(0, 1),
-        Instr::Lab(_) => arity_of(0, 1),
-        Instr::Get(_) => arity_of(0, 1),
-        Instr::Set(_) => arity_of(1, 0),
-        Instr::Pop => arity_of(1, 0),
-        Instr::Add => arity_of(2, 1),
-        Instr::Sub => arity_of(2, 1),
-        Instr::Less => arity_of(2, 1),
-        Instr::Same => arity_of(2, 1),
-        Instr::Jump(_) => arity_of(0, 0),
-        Instr::Ifz(_) => arity_of(1, 0),
-        Instr::Cur => arity_of(0, 1),
-        Instr::Clr => arity_of(0, 1),
-        Instr::Raise => arity_of(1, 0),
-        Instr::Lower => arity_of(1, 0),
-        Instr::Flows => arity_of(2, 1),
-        Instr::Join => arity_of(2, 1),
-        Instr::Meet => arity_of(2, 1),
-        Instr::Seal => arity_of(2, 1),
-        Instr::Open => arity_of(1, 1),
-        Instr::Labof => arity_of(1, 1),
-        Instr::New => arity_of(2, 1),
-        Instr::Read => arity_of(1, 1),
-        Instr::Write => arity_of(2, 0),
-        Instr::Block(_, _, _) => arity_of(1, 1),
-        Instr::Try(_) => arity_of(0, 2),
-        Instr::Done => arity_of(0, 0),
-        Instr::Throw => arity_of(1, 0),
-        Instr::Input(_) => arity_of(0, 1),
     }
 }

@@ -1,2 +1,2 @@
-pub mod Chunks
 pub mod Slots
+pub mod Records

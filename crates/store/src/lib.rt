@@ -9,6 +9,7 @@ ghost use mathlib.Core.Path.{_≡_};
 ghost use lib.ListN.{length, set};
 ghost use Rattle.model.specs.State.{at};
 ghost use Rattle.store.specs.Slots.{words, kindWord, contentsOf, slotOf, slots};
+ghost use Rattle.store.specs.Records.{labelAt, valueAt, rewritten};
 
 // How many places there are, and how many words each has: kind, label (two), and contents (three).
 const PLACES: usize = 256;
@@ -41,6 +42,64 @@ pub fn load(store: &[u64], p: usize) -> Slot
         );
     }
     Slot::Empty
+}
+
+// The label of the record at a place; ⟨0, 0⟩ where there is none.
+pub fn label_of(store: &[u64], p: usize) -> Label
+    requires { ⌜ length (now store) ≡ words ⌝ }
+    ensures { λ r. ⌜ r ≡ labelAt (at (slots (now (store .entry))) p) ⌝ }
+{
+    match load(store, p) {
+        Slot::Empty => Label {
+            secrecy: 0,
+            integrity: 0,
+        },
+        Slot::Full(r) => r.label,
+    }
+}
+
+// The value of the record at a place; the number 0 where there is none.
+pub fn value_of(store: &[u64], p: usize) -> Datum
+    requires { ⌜ length (now store) ≡ words ⌝ }
+    ensures { λ r. ⌜ r ≡ valueAt (at (slots (now (store .entry))) p) ⌝ }
+{
+    match load(store, p) {
+        Slot::Empty => Datum::Number(0),
+        Slot::Full(r) => datum_of(r),
+    }
+}
+
+fn datum_of(r: Record) -> Datum
+    ensures { λ d. ⌜ d ≡ valueAt (Slot.Full r) ⌝ }
+{
+    let c = r.contents;
+    match c {
+        Contents::Value(d) => d,
+        Contents::Fault(_, _) => Datum::Number(0),
+    }
+}
+
+// Gives the record at a place another value; nothing where there is none.
+pub fn rewrite(store: &mut [u64], p: usize, d: Datum)
+    requires { ⌜ length (now store) ≡ words ⌝ }
+    ensures { λ _. ⌜ slots (now (store .exit)) ≡ set (slots (now (store .entry))) p (rewritten d (at (slots (now (store .entry))) p)) ⌝ }
+{
+    match load(store, p) {
+        Slot::Empty => {}
+        Slot::Full(r) => {
+            let kind = r.kind;
+            let label = r.label;
+            save(
+                store,
+                p,
+                Record {
+                    kind,
+                    label,
+                    contents: Contents::Value(d),
+                },
+            );
+        }
+    }
 }
 
 fn slot_of(kind: u64, secrecy: u64, integrity: u64, tag: u64, first: u64, second: u64) -> Slot

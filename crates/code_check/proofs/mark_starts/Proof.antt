@@ -1,10 +1,11 @@
--- `script_file::mark_starts` meets its contract: what is left of the sweep makes the rest of the marks.
-use mathlib.Core.List.{List}
+-- `code_check::mark_starts` meets its contract: what is left of the sweep makes the rest of the marks. Assumes nothing.
+use mathlib.Core.List.{List, _∷_}
 use mathlib.Core.Path.{_≡_, refl, sym, ap, _∙_}
-use Prim.Native.Nat.{ℕ, _-_, _≤_, _<_}
+use Prim.Native.Nat.{ℕ, _+_, _-_, _≤_, _<_}
 use native.Mathlib.Omega.{arith}
 use lib.ListN.{length, length-set}
 use Rattle.decode.proofs.Sizes.{size-short}
+use Rattle.model.specs.Decoding.{byte}
 use Rattle.code_check.specs.Sweep.{starts, lastOf}
 use Rattle.code_check.specs.Marks.{mark}
 use Rattle.code_check.proofs.Starts.{from, size-some, from-step, from-end}
@@ -12,53 +13,66 @@ use borrow.Author.Needs.{needs}
 use Rattle.code_check.proofs.mark_starts.Statement.{statement}
 use Rattle.code_check.proofs.mark_starts.Tie as tie
 
--- `script_file::mark_starts` meets its contract: what is left of the sweep makes the rest of the marks.
-
 abbrev Inv-loop : tie.InvT-loop
 Inv-loop code marks₀ last₀ i₀ marks last i = (length marks ≡ length marks₀) × (mark (from code 0) marks₀ ≡ mark (from code i) marks) × (lastOf 0 (from code 0) ≡ lastOf last (from code i))
 
 abbrev μ-loop : tie.MeasureT-loop
 μ-loop code marks₀ last₀ i₀ marks last i = length code - i
 
-loop-holds : tie.Need-loop-holds Inv-loop μ-loop
-loop-holds c = (refl, refl, refl)
+-- an instruction in the code
+module _ (p : tie.In-loop Inv-loop μ-loop) where
+  abbrev head : tie.At-loop Inv-loop μ-loop
+  head = search
 
-slice-write-marks : tie.Need-slice-write-marks Inv-loop μ-loop
-slice-write-marks c = omega arith
+  abbrev begun : tie.Start Inv-loop μ-loop
+  begun = search
 
-shared-slice-read-size-of : tie.Need-shared-slice-read-size-of Inv-loop μ-loop
-shared-slice-read-size-of c = omega arith
+  abbrev code : List ℕ
+  code = begun .args .code .now
 
-size-of-requires : tie.Need-size-of-requires Inv-loop μ-loop
-size-of-requires c κs = search needs
+  abbrev i : ℕ
+  i = head .loop .i
+
+  inside : i < length code
+  inside = p .loop-test .taken
+
+  in-marks : i < length (head .loop .marks)
+  in-marks = omega (arith, inside, head .loop .inv .0, begun .pre .0)
+
+-- its size
+module _ (s : tie.After-size-of Inv-loop μ-loop) where
+  abbrev at : tie.In-loop Inv-loop μ-loop
+  at = search
+
+  some : 1 ≤ s .size-of .result
+  some = omega (arith, s .size-of .ensures, size-some (byte (code at) (i at)))
+
+  short : s .size-of .result ≤ 20
+  short = omega (arith, s .size-of .ensures, size-short (byte (code at) (i at)))
+
+  step : from (code at) (i at) ≡ i at ∷ from (code at) (i at + s .size-of .result)
+  step = from-step (code at) (i at) (inside at) ∙ ap (λ (k : ℕ). i at ∷ from (code at) (i at + k)) (sym (s .size-of .ensures))
 
 add-i : tie.Need-add-i Inv-loop μ-loop
-add-i c = let small : c .size-of .result ≤ 20 = rw (c .size-of .ensures) (size-short _) in
-    omega arith
+add-i c = let p : tie.In-loop Inv-loop μ-loop = search in omega (arith, inside p, begun p .pre .1, short (search))
 
 loop-less : tie.Need-loop-less Inv-loop μ-loop
-loop-less c = let some : 1 ≤ c .size-of .result = rw (c .size-of .ensures) (size-some _) in
-    omega arith
+loop-less c = omega (arith, inside (search), some (search))
 
 loop-again : tie.Need-loop-again Inv-loop μ-loop
-loop-again c = let code = c .before .before .before .before .before .before .args .code .now in
-    let inv = c .before .before .before .loop .inv in
-    let inside : c .before .before .before .loop .i < length code = omega arith in
-    let step = from-step code (c .before .before .before .loop .i) inside in (
-      rw length-set (inv .0),
-      rw (c .size-of .ensures) (inv .1 ∙ ap (λ (is : List ℕ). mark is (c .before .before .before .loop .marks)) step),
-      rw (c .size-of .ensures) (inv .2 ∙ ap (lastOf (c .before .before .before .loop .last)) step),
-    )
-
-same-length : tie.Need-same-length Inv-loop μ-loop
-same-length c = omega arith
+loop-again c =
+    let h : tie.At-loop Inv-loop μ-loop = search in
+    let inv = h .loop .inv in
+    (rw length-set (inv .0), inv .1 ∙ ap (λ (is : List ℕ). mark is (h .loop .marks)) (step (search)), inv .2 ∙ ap (lastOf (h .loop .last)) (step (search)))
 
 returns : tie.Need-returns Inv-loop μ-loop
 unfolding starts
-returns c = let inv = c .before .loop .inv in
-    let over : length (c .before .before .before .before .args .code .now) ≤ c .before .loop .i = omega arith in
-    let none-left = from-end (c .before .before .before .before .args .code .now) (c .before .loop .i) over in
-    (sym (inv .2 ∙ ap (lastOf (c .before .loop .last)) none-left), sym (inv .1 ∙ ap (λ (is : List ℕ). mark is (c .before .loop .marks)) none-left))
+returns c =
+    let h : tie.At-loop Inv-loop μ-loop = search in
+    let b : tie.Start Inv-loop μ-loop = search in
+    let inv = h .loop .inv in
+    let none-left = from-end (b .args .code .now) (h .loop .i) (c .loop-test .left) in
+    (sym (inv .2 ∙ ap (lastOf (h .loop .last)) none-left), sym (inv .1 ∙ ap (λ (is : List ℕ). mark is (h .loop .marks)) none-left))
 
 pub mark-starts-spec : {M : Type 1} → statement M
 mark-starts-spec =
@@ -66,12 +80,12 @@ mark-starts-spec =
     (tie.spec
     Inv-loop
     μ-loop
-    loop-holds
-    slice-write-marks
-    shared-slice-read-size-of
-    size-of-requires
+    (λ c. (refl, refl, refl))
+    (λ c. omega (arith, in-marks (search)))
+    (λ c. omega (arith, inside (search)))
+    (λ c κs. search needs)
     add-i
     loop-less
     loop-again
-    same-length
+    (λ c. let h : tie.At-loop Inv-loop μ-loop = search in h .loop .inv .0)
     returns)

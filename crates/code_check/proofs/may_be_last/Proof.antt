@@ -1,4 +1,4 @@
--- `script_file::may_be_last` meets its contract.
+-- `code_check::may_be_last` meets its contract. Assumes nothing.
 use borrow.Author.Tests.{eq-eqb, ne-eqb}
 use Rattle.code_check.specs.Sweep.{mayBeLast}
 use Rattle.code_check.proofs.may_be_last.Statement.{statement}
@@ -10,11 +10,11 @@ returns c = rw (eq-eqb _ _ (c .if1 .taken))
 
 returns-2 : tie.Need-returns-2
 unfolding mayBeLast
-returns-2 c = rw (ne-eqb _ _ (c .before .if1 .left), eq-eqb _ _ (c .if2 .taken))
+returns-2 c = let one : tie.Else1 = search in rw (ne-eqb _ _ (one .if1 .left), eq-eqb _ _ (c .if2 .taken))
 
 returns-3 : tie.Need-returns-3
 unfolding mayBeLast
-returns-3 c = rw (ne-eqb _ _ (c .before .if1 .left), ne-eqb _ _ (c .if2 .left))
+returns-3 c = let one : tie.Else1 = search in rw (ne-eqb _ _ (one .if1 .left), ne-eqb _ _ (c .if2 .left))
 
 pub may-be-last-spec : {M : Type 1} → statement M
 may-be-last-spec = tie.close (tie.spec returns returns-2 returns-3)

@@ -1,32 +1,25 @@
--- `decode::size_of` meets its contract: the table is the definition's.
-use mathlib.Core.Path.{sym, refl, ap}
-use Prim.Native.Nat.{ℕ, _+_}
-use native.Mathlib.Omega.{arith}
-use lib.ListN.{List·getD-eq-default}
-use Rattle.decode.proofs.Sizes.{operands-short}
+-- `decode::size_of` meets its contract: each named arm by its opcode, the others have no operands.
+use mathlib.Core.Path.{sym}
+use Rattle.decode.proofs.Sizes.{size-else}
 use Rattle.model.specs.Decoding.{operandBytes, size}
-use borrow.Author.Needs.{needs}
 use Rattle.decode.proofs.size_of.Statement.{statement}
 use Rattle.decode.proofs.size_of.Tie as tie
 
-array-read-result : tie.Need-array-read-result
-array-read-result c = search needs
-
-cast-result : tie.Need-cast-result
-unfolding operandBytes
-cast-result c = omega (arith, operands-short (c .before .args .op))
-
-add-result : tie.Need-add-result
-unfolding operandBytes
-add-result c = omega (arith, operands-short (c .before .args .op))
-
-returns : tie.Need-returns
-unfolding size operandBytes
-returns c = refl
-
-returns-2 : tie.Need-returns-2
-unfolding size operandBytes
-returns-2 c = sym (ap (λ (n : ℕ). 1 + n) (List·getD-eq-default operandBytes 0 (c .if1 .left)))
+returns-10 : tie.Need-returns-10
+returns-10 c = let start : tie.Start = search in sym (size-else (start .args .op) (c .match .rest))
 
 pub size-of-spec : {M : Type 1} → statement M
-size-of-spec = tie.close (tie.spec array-read-result cast-result add-result returns returns-2)
+unfolding size operandBytes
+size-of-spec =
+    tie.close
+    (tie.spec
+    (λ c. rw (c .match .keys1))
+    (λ c. rw (c .match .keys2))
+    (λ c. rw (c .match .keys3))
+    (λ c. rw (c .match .keys4))
+    (λ c. rw (c .match .keys5))
+    (λ c. rw (c .match .keys6))
+    (λ c. rw (c .match .keys7))
+    (λ c. rw (c .match .keys8))
+    (λ c. rw (c .match .keys9))
+    returns-10)

@@ -4,40 +4,19 @@ use borrow.Author.Needs.{needs}
 use Rattle.decode.proofs.u16_at.Statement.{statement}
 use Rattle.decode.proofs.u16_at.Tie as tie
 
-byte-at-requires : tie.Need-byte-at-requires
-byte-at-requires c κs = search needs
-
-cast-low : tie.Need-cast-low
-cast-low c = search needs
-
-add-byte-at : tie.Need-add-byte-at
-add-byte-at c = search needs
-
-byte-at-requires-2 : tie.Need-byte-at-requires-2
-byte-at-requires-2 c κs = search needs
-
-cast-high : tie.Need-cast-high
-cast-high c = search needs
-
-mul-result : tie.Need-mul-result
-mul-result c = search needs
-
-add-result : tie.Need-add-result
-add-result c = search needs
-
 returns : tie.Need-returns
 unfolding u16
-returns c = rw (c .byte-at2 .ensures, c .before .byte-at .ensures)
+returns c = let low : tie.After-byte-at = search in rw (c .byte-at2 .ensures, low .byte-at .ensures)
 
 pub u16-at-spec : {M : Type 1} → statement M
 u16-at-spec =
     tie.close
     (tie.spec
-    byte-at-requires
-    cast-low
-    add-byte-at
-    byte-at-requires-2
-    cast-high
-    mul-result
-    add-result
+    (search needs)
+    (search needs)
+    (search needs)
+    (search needs)
+    (search needs)
+    (search needs)
+    (search needs)
     returns)

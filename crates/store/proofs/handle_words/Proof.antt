@@ -1,13 +1,7 @@
+-- `store::handle_words` meets its contract: what is written is what is read back.
 use borrow.Author.Needs.{needs}
 use Rattle.store.proofs.handle_words.Statement.{statement}
 use Rattle.store.proofs.handle_words.Tie as tie
-use Rattle.store.proofs.handle_words.Reads as reads
-
-enum-told : tie.Need-enum-told
-enum-told c = search needs
-
-enum-told-2 : tie.Need-enum-told-2
-enum-told-2 c = search needs
 
 returns : tie.Need-returns
 returns c = rw (c .enum-told .given .1)
@@ -16,4 +10,4 @@ returns-2 : tie.Need-returns-2
 returns-2 c = rw (c .enum-told2 .given .1)
 
 pub handle-words-spec : {M : Type 1} → statement M
-handle-words-spec = tie.close (tie.spec enum-told enum-told-2 returns returns-2)
+handle-words-spec = tie.close (tie.spec (search needs) (search needs) returns returns-2)

@@ -1,0 +1,3 @@
+-- Lemmas for the proofs of the functions.
+pub mod Chunks
+pub mod Places
