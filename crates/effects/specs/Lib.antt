@@ -1,3 +1,2 @@
--- Served: what the code makes of a plan. Bridge: that it is what the definition makes of it.
-pub mod Served
-pub mod Bridge
+-- Decisions: what the code makes of labels and records.
+pub mod Decisions

@@ -1,4 +1,4 @@
-// Faults 23 to 28, and what a plan does to the store.
+// What an instruction comes to on labels and records: faults 22 to 28, or an effect that says where things lie.
 use labels::Label;
 use model::Contents;
 use model::Datum;
@@ -6,40 +6,21 @@ use model::Ending;
 use model::Kind;
 use model::Record;
 use model::Slot;
-use operands::Plan;
+use operands::By;
+use operands::Decision;
+use operands::Effect;
+use operands::LabelTask;
+use operands::OnHandle;
+use operands::OnLabel;
+use operands::Origin;
 ghost use mathlib.Core.Path.{_≡_};
-ghost use Prim.Native.Nat.{_≤_, _<_};
-ghost use lib.ListN.{length};
+ghost use Prim.Native.Nat.{_^_, _≤_, _<_};
+ghost use lib.ListN.{length, set};
 ghost use Rattle.model.specs.State.{at};
+ghost use Rattle.model.specs.Effects.{holding};
+ghost use Rattle.operands.specs.Plans.{decided};
 ghost use Rattle.store.specs.Slots.{words, slots};
-ghost use Rattle.effects.specs.Served.{served, targetOf, risesOf, raiseOf, lowerOf, labelOf, openedOf, openOf, makeOf, rewriteOf, writeOf, serve, roomOf, enterOf, outcomeOf};
-
-// What the run state has to take over. All but the two faults drop the operands first.
-pub enum Effect {
-    // code, number
-    Fault(u32, u32),
-    Drop,
-    Push(Datum),
-    Get(usize),
-    Set(usize, Datum),
-    Jump(usize),
-    Try(usize),
-    Done,
-    End(Datum),
-    Raise(Label),
-    Lower(Label),
-    // the handle of a record that was made at the next place
-    Make(Datum),
-    // a record's label, by which the label is raised, and its value, or its fault
-    Open(Label, Datum),
-    Throw(Label, u32, u32),
-}
-
-// What BLOCK comes to: a fault, or a body under a bound.
-pub enum Entry {
-    Fault(u32),
-    Body(Label),
-}
+ghost use Rattle.effects.specs.Decisions.{targetOf, risesOf, raiseOf, lowerOf, makeOf, roomOf, enterOf, withLabel, onLabel, isKind, openedOf, openOf, labelledOf, rewriteOf, writeOf, withHandle, onHandle, onLabels, labelFrom, raisedBy, outcomeOf};
 
 // The account of a run, as far as faults 23 to 28 look at it.
 pub struct Account {
@@ -49,6 +30,12 @@ pub struct Account {
     pub next: usize,
     pub limit: usize,
     pub depth: usize,
+}
+
+fn decides(takes: usize, effect: Effect) -> Decision
+    ensures { λ r. ⌜ r ≡ decided takes effect ⌝ }
+{
+    Decision { takes, effect }
 }
 
 // ---- the checks
@@ -73,164 +60,47 @@ fn rises(label: Label, clearance: Label, l: Label) -> bool
     labels::flows(labels::join(label, l), clearance)
 }
 
-// ---- the plans
+// ---- on a label
 
 fn raise(label: Label, clearance: Label, l: Label) -> Effect
     ensures { λ r. ⌜ r ≡ raiseOf label clearance l ⌝ }
 {
     if !rises(label, clearance, l) {
-        return Effect::Fault(24, 0);
+        return Effect::Fault(By::None, 24, 0);
     }
-    Effect::Raise(l)
+    Effect::Raise
 }
 
 fn lower(label: Label, clearance: Label, l: Label) -> Effect
     ensures { λ r. ⌜ r ≡ lowerOf label clearance l ⌝ }
 {
     if !labels::flows(label, l) {
-        return Effect::Fault(25, 0);
+        return Effect::Fault(By::None, 25, 0);
     }
     if !labels::flows(l, clearance) {
-        return Effect::Fault(25, 0);
+        return Effect::Fault(By::None, 25, 0);
     }
-    Effect::Lower(l)
+    Effect::Lower
 }
 
-fn label_of(p: usize, store: &[u64]) -> Effect
-    requires { ⌜ length (now store) ≡ words ⌝ }
-    ensures { λ r. ⌜ r ≡ labelOf (at (slots (now (store .entry))) p) ⌝ }
-{
-    let s = store::load(store, p);
-    match s {
-        Slot::Empty => Effect::Fault(33, 0),
-        Slot::Full(r) => {
-            let l = r.label;
-            Effect::Push(Datum::Label(l))
-        }
-    }
-}
-
-fn open(label: Label, clearance: Label, p: usize, store: &[u64]) -> Effect
-    requires { ⌜ length (now store) ≡ words ⌝ }
-    ensures { λ r. ⌜ r ≡ openOf label clearance (at (slots (now (store .entry))) p) ⌝ }
-{
-    let s = store::load(store, p);
-    match s {
-        Slot::Empty => Effect::Fault(33, 0),
-        Slot::Full(r) => opened(label, clearance, r),
-    }
-}
-
-fn opened(label: Label, clearance: Label, r: Record) -> Effect
-    ensures { λ e. ⌜ e ≡ openedOf label clearance r ⌝ }
-{
-    let l = r.label;
-    if !rises(label, clearance, l) {
-        return Effect::Fault(24, 0);
-    }
-    let contents = r.contents;
-    match contents {
-        Contents::Value(d) => Effect::Open(l, d),
-        Contents::Fault(code, number) => Effect::Throw(l, code, number),
-    }
-}
-
-fn make(a: Account, kind: Kind, l: Label, d: Datum, store: &mut [u64]) -> Effect
-    requires { ⌜ length (now store) ≡ words ⌝ }
-    ensures { λ r. ⌜ served r (slots (now (store .exit))) ≡ makeOf a (slots (now (store .entry))) kind l d ⌝ }
+// SEAL, NEW.
+fn make(a: Account, kind: Kind, l: Label) -> Effect
+    ensures { λ r. ⌜ r ≡ makeOf a kind l ⌝ }
 {
     let label = a.label;
     let clearance = a.clearance;
     let fault = target(label, clearance, l);
     if fault != 0 {
-        return Effect::Fault(fault, 0);
+        return Effect::Fault(By::None, fault, 0);
     }
-    let p = a.next;
-    if a.limit <= p {
-        return Effect::Fault(26, 0);
+    if a.limit <= a.next {
+        return Effect::Fault(By::None, 26, 0);
     }
-    store::save(
-        store,
-        p,
-        Record {
-            kind,
-            label: l,
-            contents: Contents::Value(d),
-        },
-    );
-    Effect::Make(Datum::Handle(kind, p))
+    Effect::Make(kind)
 }
 
-fn write(label: Label, clearance: Label, p: usize, d: Datum, store: &mut [u64]) -> Effect
-    requires { ⌜ length (now store) ≡ words ⌝ }
-    ensures { λ r. ⌜ served r (slots (now (store .exit))) ≡ writeOf label clearance (slots (now (store .entry))) p d (at (slots (now (store .entry))) p) ⌝ }
-{
-    let s = store::load(store, p);
-    match s {
-        Slot::Empty => Effect::Fault(33, 0),
-        Slot::Full(r) => rewrite(label, clearance, p, d, r, store),
-    }
-}
-
-fn rewrite(
-    label: Label,
-    clearance: Label,
-    p: usize,
-    d: Datum,
-    r: Record,
-    store: &mut [u64],
-) -> Effect
-    requires { ⌜ length (now store) ≡ words ⌝ }
-    ensures { λ e. ⌜ served e (slots (now (store .exit))) ≡ rewriteOf label clearance (slots (now (store .entry))) p d r ⌝ }
-{
-    let l = r.label;
-    let fault = target(label, clearance, l);
-    if fault != 0 {
-        return Effect::Fault(fault, 0);
-    }
-    let kind = r.kind;
-    store::save(
-        store,
-        p,
-        Record {
-            kind,
-            label: l,
-            contents: Contents::Value(d),
-        },
-    );
-    Effect::Drop
-}
-
-// What a plan comes to.
-pub fn effect_of(p: Plan, a: Account, store: &mut [u64]) -> Effect
-    requires { ⌜ length (now store) ≡ words ⌝ }
-    ensures { λ r. ⌜ served r (slots (now (store .exit))) ≡ serve a (slots (now (store .entry))) p ⌝ }
-{
-    let label = a.label;
-    let clearance = a.clearance;
-    match p {
-        Plan::Fault(code) => Effect::Fault(code, 0),
-        Plan::Drop => Effect::Drop,
-        Plan::Push(d) => Effect::Push(d),
-        Plan::Get(i) => Effect::Get(i),
-        Plan::Set(i, d) => Effect::Set(i, d),
-        Plan::Jump(t) => Effect::Jump(t),
-        Plan::Try(h) => Effect::Try(h),
-        Plan::Done => Effect::Done,
-        Plan::End(d) => Effect::End(d),
-        Plan::Throw(n) => Effect::Fault(30, n),
-        Plan::Raise(l) => raise(label, clearance, l),
-        Plan::Lower(l) => lower(label, clearance, l),
-        Plan::Label(p) => label_of(p, store),
-        Plan::Open(p) => open(label, clearance, p, store),
-        Plan::Make(kind, l, d) => make(a, kind, l, d, store),
-        Plan::Write(p, d) => write(label, clearance, p, d, store),
-    }
-}
-
-// ---- blocks
-
-fn room(a: Account, b: Label, n: usize, k: usize) -> Entry
+// BLOCK's checks on its bound, n and k, as the code of the fault; 0 is none.
+fn room(a: Account, b: Label, n: usize, k: usize) -> u32
     requires { ⌜ a .next ≤ a .limit ⌝ }
     ensures { λ r. ⌜ r ≡ roomOf a b n k ⌝ }
 {
@@ -238,33 +108,229 @@ fn room(a: Account, b: Label, n: usize, k: usize) -> Entry
     let clearance = a.clearance;
     let fault = target(label, clearance, b);
     if fault != 0 {
-        return Entry::Fault(fault);
+        return fault;
     }
     if 8 <= a.depth {
-        return Entry::Fault(28);
+        return 28;
     }
     if a.steps < n {
-        return Entry::Fault(27);
+        return 27;
     }
     if a.limit - a.next <= k {
-        return Entry::Fault(26);
+        return 26;
     }
-    Entry::Body(b)
+    0
 }
 
-// BLOCK's checks, on the top of the stack and its own n and k.
-pub fn enter(a: Account, height: usize, y: Datum, n: usize, k: usize) -> Entry
+fn enter(a: Account, b: Label, t: usize, n: usize, k: usize) -> Effect
     requires { ⌜ a .next ≤ a .limit ⌝ }
-    ensures { λ r. ⌜ r ≡ enterOf a height y n k ⌝ }
+    ensures { λ r. ⌜ r ≡ enterOf a b t n k ⌝ }
 {
-    if height == 0 {
-        return Entry::Fault(20);
+    let fault = room(a, b, n, k);
+    if fault != 0 {
+        return Effect::Fault(By::None, fault, 0);
     }
+    Effect::Block(t, n, k)
+}
+
+fn with_label(f: OnLabel, l: Label, a: Account) -> Decision
+    requires { ⌜ a .next ≤ a .limit ⌝ }
+    ensures { λ r. ⌜ r ≡ withLabel f l a ⌝ }
+{
+    let label = a.label;
+    let clearance = a.clearance;
+    match f {
+        OnLabel::Raise => decides(1, raise(label, clearance, l)),
+        OnLabel::Lower => decides(1, lower(label, clearance, l)),
+        OnLabel::Make(kind) => decides(2, make(a, kind, l)),
+        OnLabel::Block(t, n, k) => decides(1, enter(a, l, t, n, k)),
+    }
+}
+
+// RAISE, LOWER, SEAL, NEW, BLOCK.
+fn on_label(f: OnLabel, y: Datum, a: Account) -> Decision
+    requires { ⌜ a .next ≤ a .limit ⌝ }
+    ensures { λ r. ⌜ r ≡ onLabel f y a ⌝ }
+{
     match y {
-        Datum::Number(_) => Entry::Fault(22),
-        Datum::Label(b) => room(a, b, n, k),
-        Datum::Handle(_, _) => Entry::Fault(22),
+        Datum::Number(_) => decides(1, Effect::Fault(By::None, 22, 0)),
+        Datum::Label(l) => with_label(f, l, a),
+        Datum::Handle(_, _) => decides(1, Effect::Fault(By::None, 22, 0)),
     }
+}
+
+// ---- on a handle
+
+fn is_kind(k: Kind, kind: Kind) -> bool
+    ensures { λ r. ⌜ r ≡ isKind k kind ⌝ }
+{
+    match k {
+        Kind::Sealed => match kind {
+            Kind::Sealed => true,
+            Kind::Reference => false,
+        },
+        Kind::Reference => match kind {
+            Kind::Sealed => false,
+            Kind::Reference => true,
+        },
+    }
+}
+
+fn opened(label: Label, clearance: Label, p: usize, r: Record) -> Effect
+    ensures { λ e. ⌜ e ≡ openedOf label clearance p r ⌝ }
+{
+    let l = r.label;
+    if !rises(label, clearance, l) {
+        return Effect::Fault(By::None, 24, 0);
+    }
+    let contents = r.contents;
+    match contents {
+        Contents::Value(_) => Effect::Open(p),
+        Contents::Fault(code, number) => Effect::Fault(By::Record(p), code, number),
+    }
+}
+
+// OPEN, READ.
+fn open(label: Label, clearance: Label, p: usize, store: &[u64]) -> Effect
+    requires { ⌜ length (now store) ≡ words ⌝ }
+    ensures { λ r. ⌜ r ≡ openOf label clearance p (at (slots (now (store .entry))) p) ⌝ }
+{
+    match store::load(store, p) {
+        Slot::Empty => Effect::Fault(By::None, 33, 0),
+        Slot::Full(r) => opened(label, clearance, p, r),
+    }
+}
+
+// LABOF.
+fn label_of(p: usize, store: &[u64]) -> Effect
+    requires { ⌜ length (now store) ≡ words ⌝ }
+    ensures { λ r. ⌜ r ≡ labelledOf p (at (slots (now (store .entry))) p) ⌝ }
+{
+    match store::load(store, p) {
+        Slot::Empty => Effect::Fault(By::None, 33, 0),
+        Slot::Full(_) => Effect::Label(Origin::Record(p)),
+    }
+}
+
+fn rewrite(label: Label, clearance: Label, p: usize, r: Record) -> Effect
+    ensures { λ e. ⌜ e ≡ rewriteOf label clearance p r ⌝ }
+{
+    let l = r.label;
+    let fault = target(label, clearance, l);
+    if fault != 0 {
+        return Effect::Fault(By::None, fault, 0);
+    }
+    Effect::Write(p)
+}
+
+// WRITE.
+fn write(label: Label, clearance: Label, p: usize, store: &[u64]) -> Effect
+    requires { ⌜ length (now store) ≡ words ⌝ }
+    ensures { λ r. ⌜ r ≡ writeOf label clearance p (at (slots (now (store .entry))) p) ⌝ }
+{
+    match store::load(store, p) {
+        Slot::Empty => Effect::Fault(By::None, 33, 0),
+        Slot::Full(r) => rewrite(label, clearance, p, r),
+    }
+}
+
+fn with_handle(f: OnHandle, kind: Kind, p: usize, a: Account, store: &[u64]) -> Decision
+    requires { ⌜ length (now store) ≡ words ⌝ }
+    ensures { λ r. ⌜ r ≡ withHandle f kind p a (slots (now (store .entry))) ⌝ }
+{
+    let label = a.label;
+    let clearance = a.clearance;
+    match f {
+        OnHandle::Open(k) => {
+            if !is_kind(k, kind) {
+                return decides(1, Effect::Fault(By::None, 22, 0));
+            }
+            decides(1, open(label, clearance, p, store))
+        }
+        OnHandle::Label => decides(1, label_of(p, store)),
+        OnHandle::Write => match kind {
+            Kind::Sealed => decides(2, Effect::Fault(By::None, 22, 0)),
+            Kind::Reference => decides(2, write(label, clearance, p, store)),
+        },
+    }
+}
+
+// OPEN, READ, LABOF, WRITE.
+fn on_handle(f: OnHandle, y: Datum, a: Account, store: &[u64]) -> Decision
+    requires { ⌜ length (now store) ≡ words ⌝ }
+    ensures { λ r. ⌜ r ≡ onHandle f y a (slots (now (store .entry))) ⌝ }
+{
+    match y {
+        Datum::Number(_) => decides(1, Effect::Fault(By::None, 22, 0)),
+        Datum::Label(_) => decides(1, Effect::Fault(By::None, 22, 0)),
+        Datum::Handle(kind, p) => with_handle(f, kind, p, a, store),
+    }
+}
+
+// What the top two of the stack come to, with labels and records.
+pub fn on_labels(t: LabelTask, y: Datum, x: Datum, a: Account, store: &[u64]) -> Decision
+    requires { ⌜ (a .next ≤ a .limit) × (length (now store) ≡ words) ⌝ }
+    ensures { λ r. ⌜ r ≡ onLabels t y x a (slots (now (store .entry))) ⌝ }
+{
+    match t {
+        LabelTask::Pair(f) => decides(2, operands::two_labels(f, y, x)),
+        LabelTask::Label(f) => on_label(f, y, a),
+        LabelTask::Handle(f) => on_handle(f, y, a, store),
+    }
+}
+
+// ---- where a label lies
+
+// The label that is to be pushed, y and x being the top operand and the one below.
+pub fn label_from(
+    o: Origin,
+    y: Datum,
+    x: Datum,
+    label: Label,
+    clearance: Label,
+    labels: &[u64],
+    store: &[u64],
+) -> Label
+    requires { ⌜ (length (now labels) < 2 ^ 32) × (length (now store) ≡ words) ⌝ }
+    ensures { λ r. ⌜ r ≡ labelFrom o y x label clearance (now (labels .entry)) (slots (now (store .entry))) ⌝ }
+{
+    match o {
+        Origin::File(i) => operands::label_at(labels, i),
+        Origin::Current => label,
+        Origin::Clearance => clearance,
+        Origin::Join => labels::join(operands::label_of(x), operands::label_of(y)),
+        Origin::Meet => labels::meet(operands::label_of(x), operands::label_of(y)),
+        Origin::Record(p) => store::label_of(store, p),
+    }
+}
+
+// The label that a fault leaves.
+pub fn raised(label: Label, by: By, store: &[u64]) -> Label
+    requires { ⌜ length (now store) ≡ words ⌝ }
+    ensures { λ r. ⌜ r ≡ raisedBy label by (slots (now (store .entry))) ⌝ }
+{
+    match by {
+        By::None => label,
+        By::Record(p) => labels::join(label, store::label_of(store, p)),
+    }
+}
+
+// ---- what is kept
+
+// Puts a value under a label at a place.
+pub fn keep(kind: Kind, l: Label, d: Datum, p: usize, store: &mut [u64])
+    requires { ⌜ length (now store) ≡ words ⌝ }
+    ensures { λ _. ⌜ slots (now (store .exit)) ≡ set (slots (now (store .entry))) p (holding kind l (Contents.Value d)) ⌝ }
+{
+    store::save(
+        store,
+        p,
+        Record {
+            kind,
+            label: l,
+            contents: Contents::Value(d),
+        },
+    );
 }
 
 // The contents of a block's outcome: 31 if the body's last label doesn't flow to the bound, however it ended.
@@ -279,4 +345,20 @@ pub fn outcome(label: Label, e: Ending, b: Label) -> Contents
         Ending::Fault(code, number) => Contents::Fault(code, number),
         Ending::Spent => Contents::Fault(32, 0),
     }
+}
+
+// Seals what a body came to, under its bound.
+pub fn conclude(b: Label, label: Label, e: Ending, p: usize, store: &mut [u64])
+    requires { ⌜ length (now store) ≡ words ⌝ }
+    ensures { λ _. ⌜ slots (now (store .exit)) ≡ set (slots (now (store .entry))) p (holding Kind.Sealed b (outcomeOf label e b)) ⌝ }
+{
+    store::save(
+        store,
+        p,
+        Record {
+            kind: Kind::Sealed,
+            label: b,
+            contents: outcome(label, e, b),
+        },
+    );
 }

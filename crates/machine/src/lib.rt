@@ -1,29 +1,24 @@
 // The run state, passed and returned by value, and the interpreter. The records are lent beside it, as words: the state
 // is copied, and 256 records in it would be copied too.
 use effects::Account;
-use effects::Effect;
-use effects::Entry;
 use labels::Label;
 use model::Datum;
 use model::Ending;
 use model::Frame;
 use model::Kind;
-use model::Record;
 use model::Value;
-use operands::Operands;
+use operands::Effect;
+use operands::Plan;
 ghost use mathlib.Core.Path.{_≡_};
 ghost use Prim.Native.Nat.{_+_, _-_, _*_, _^_, _≤_, _<_, min};
 ghost use lib.ListN.{length};
-ghost use Rattle.model.specs.State.{number};
-ghost use Rattle.model.specs.Decoding.{byte};
-ghost use Rattle.model.specs.Effects.{fail};
 ghost use Rattle.model.specs.Running.{runs, startControl, startAccount};
 ghost use Rattle.operands.specs.Program.{program, count};
 ghost use Rattle.store.specs.Slots.{words, slots};
-ghost use Rattle.effects.specs.Bridge.{lent};
-ghost use Rattle.machine.specs.State.{Ok, Live, Does, Ran, control, account, nextOf, endingOf, outcomeOf, isLive, presentOf, popped, pushed, raised, charged, taken, jumped, framed, ended, bodied};
-ghost use Rattle.machine.specs.Steps.{Sizes, Started, stepOf, runOf};
-ghost use Rattle.machine.specs.Turns.{Decided, seen, readyOf, turns};
+ghost use Rattle.effects.specs.Decisions.{lent};
+ghost use Rattle.machine.specs.State.{Ok, Ran, account, nextOf, endingOf, isLive, popped, pushed, raised, charged, ended, handled};
+ghost use Rattle.machine.specs.Steps.{Sizes, Finishes, owned, begun, borne, fresh};
+ghost use Rattle.machine.specs.Turns.{readyOf, turns};
 
 pub enum Status {
     Running,
@@ -36,12 +31,12 @@ pub struct Progress {
 }
 
 pub struct State {
+    pub locals: [Value; 16],
     // Grows downwards: the values are those from `top` on, the top one first.
     pub stack: [Value; 32],
-    pub top: usize,
-    pub locals: [Value; 16],
     // As the stack, the newest first.
     pub frames: [Frame; 8],
+    pub top: usize,
     pub newest: usize,
     pub label: Label,
     pub clearance: Label,
@@ -55,76 +50,27 @@ pub struct State {
     pub progress: Progress,
 }
 
-// An instruction decided: the place of the next, how many operands it takes, and what it does.
-pub struct Decision {
-    pub after: usize,
-    pub takes: usize,
-    pub effect: Effect,
-}
-
-// The opcode of BLOCK, 19 in hexadecimal.
-const BLOCK: u8 = 25;
-
-fn number(n: u32) -> Value
-    ensures { λ r. ⌜ r ≡ number n ⌝ }
-{
-    Value {
-        datum: Datum::Number(n),
-    }
-}
-
-fn least(a: usize, b: usize) -> usize
-    ensures { λ r. ⌜ r ≡ min a b ⌝ }
-{
-    if a < b {
-        return a;
-    }
-    b
-}
-
-// What was read for place i of n: past the end stands the number 0.
-fn present(i: usize, n: usize, v: Value) -> Datum
-    ensures { λ r. ⌜ r ≡ presentOf i n v ⌝ }
-{
-    if i < n {
-        return v.datum;
-    }
-    Datum::Number(0)
-}
-
-// What the instruction at pc comes to, decided from small values: the run state is not passed on, so it is not copied.
-fn decide(
-    code: &[u8],
-    pc: usize,
-    o: Operands,
-    account: Account,
-    labels: &[u64],
-    records: &[u8],
-    store: &mut [u64],
-) -> Decision
-    requires { ⌜ Sizes (now code) (now labels) (now store) × (o .height ≤ 32) ⌝ }
-    ensures { λ r. ⌜ Decided r (now (code .entry)) (now (labels .entry)) (now (records .entry)) pc o account (slots (now (store .entry))) (slots (now (store .exit))) ⌝ }
-{
-    let d = decode::decode(code, pc);
-    let i = d.instr;
-    let a = decode::arity(i);
-    let p = operands::plan_of(i, a, o, labels, records);
-    let effect = effects::effect_of(p, account, store);
-    Decision {
-        after: d.after,
-        takes: a.takes,
-        effect,
-    }
+// What a run leaves.
+pub struct Finished {
+    pub ending: Ending,
+    pub label: Label,
+    pub clearance: Label,
+    pub steps: usize,
+    pub next: usize,
 }
 
 // How a run ended.
-pub fn ending(p: Progress) -> Ending
+fn ending(p: Progress) -> Ending
     ensures { λ r. ⌜ r ≡ endingOf (p .status) ⌝ }
 {
     let s = p.status;
     match s {
         Status::Running => Ending::Spent,
-        Status::Ended(e) => e,
+        Status::Ended(e) => match e {
+            Ending::Result(d) => Ending::Result(values::same(d)),
+            Ending::Fault(code, n) => Ending::Fault(code, n),
+            Ending::Spent => Ending::Spent,
+        },
     }
 }
 
@@ -169,34 +115,6 @@ impl State {
         self
     }
 
-    // Takes n places.
-    fn take(mut self, n: usize) -> State
-        requires { ⌜ self .next + n < 2 ^ 32 ⌝ }
-        ensures { λ r. ⌜ r ≡ taken n self ⌝ }
-    {
-        let p = self.next;
-        self.next = p + n;
-        self
-    }
-
-    fn jump(mut self, t: usize) -> State
-        ensures { λ r. ⌜ r ≡ jumped t self ⌝ }
-    {
-        self.pc = t;
-        self
-    }
-
-    fn enter_try(mut self, h: usize) -> State
-        requires { ⌜ (0 < self .newest) × (self .newest ≤ 8) × (self .top ≤ 32) ⌝ }
-        ensures { λ r. ⌜ r ≡ framed h self ⌝ }
-    {
-        let newest = self.newest - 1;
-        let height = 32 - self.top;
-        self.frames[newest] = Frame { handler: h, height };
-        self.newest = newest;
-        self
-    }
-
     fn end(mut self, e: Ending) -> State
         ensures { λ r. ⌜ r ≡ ended e self ⌝ }
     {
@@ -218,24 +136,6 @@ impl State {
         }
     }
 
-    // What an instruction is checked against, y and x being read for the top operand and the one below.
-    fn operands(self, y: Value, x: Value) -> Operands
-        requires { ⌜ (self .top ≤ 32) × (self .newest ≤ 8) ⌝ }
-        ensures { λ r. ⌜ r ≡ seen self y x ⌝ }
-    {
-        let top = self.top;
-        let label = self.label;
-        let clearance = self.clearance;
-        Operands {
-            height: 32 - top,
-            top: present(top, 32, y),
-            second: present(top + 1, 32, x),
-            frames: 8 - self.newest,
-            label,
-            clearance,
-        }
-    }
-
     fn account(self) -> Account
         ensures { λ r. ⌜ r ≡ lent (account self) ⌝ }
     {
@@ -251,58 +151,50 @@ impl State {
         }
     }
 
-    // Whether the run goes on with an instruction that is no BLOCK.
-    fn ready(self, code: &[u8]) -> bool
-        ensures { λ r. ⌜ r ≡ readyOf (now (code .entry)) self ⌝ }
+    // The account that a block's body starts with: n steps, k places behind its outcome's.
+    fn inside(self, n: usize, k: usize) -> Account
+        requires { ⌜ (self .depth < 8) × (self .next + 1 + k ≤ 256) ⌝ }
+        ensures { λ r. ⌜ r ≡ borne n k (lent (account self)) ⌝ }
+    {
+        let label = self.label;
+        let clearance = self.clearance;
+        Account {
+            label,
+            clearance,
+            steps: n,
+            next: self.next + 1,
+            limit: self.next + 1 + k,
+            depth: self.depth + 1,
+        }
+    }
+
+    // Whether the run goes on.
+    fn ready(self) -> bool
+        ensures { λ r. ⌜ r ≡ readyOf self ⌝ }
     {
         if !self.live() {
             return false;
         }
-        if self.steps == 0 {
-            return false;
-        }
-        let pc = self.pc;
-        decode::byte_at(code, pc) != BLOCK
+        0 < self.steps
     }
 
-    // Sends a fault to the newest frame's handler, or ends the run with it.
-    fn fail(mut self, code: u32, number: u32) -> State
-        requires { ⌜ Ok self × Live self ⌝ }
-        ensures { λ r. ⌜ Does r (fail code number (control self) (account self)) ⌝ }
+    // Goes on at a frame's handler, which gets a code and a number.
+    fn caught(mut self, handler: usize, height: usize, code: u32, number: u32) -> State
+        requires { ⌜ (self .top ≤ 32) × (self .newest < 8) × (height ≤ 30) ⌝ }
+        ensures { λ r. ⌜ r ≡ handled handler height code number self ⌝ }
     {
         let newest = self.newest;
-        if newest == 8 {
-            return self.end(Ending::Fault(code, number));
-        }
-        let f = self.frames[newest];
-        let height = least(32 - self.top, f.height);
+        let kept = values::least(32 - self.top, height);
         self.newest = newest + 1;
-        self.pc = f.handler;
-        self.top = 32 - height;
-        let s = self.push(crate::number(code));
-        s.push(crate::number(number))
+        self.pc = handler;
+        self.top = 32 - kept;
+        let s = self.push(values::number(code));
+        s.push(values::number(number))
     }
 
-    // The state that a block's body starts with: n steps, k places, and the locals as they are.
-    fn body(mut self, t: usize, n: usize, k: usize) -> State
-        requires { ⌜ (self .next + 1 + k < 2 ^ 32) × (self .depth < 8) ⌝ }
-        ensures { λ r. ⌜ r ≡ bodied t n k self ⌝ }
-    {
-        let p = self.next;
-        let depth = self.depth;
-        self.top = 32;
-        self.newest = 8;
-        self.pc = t;
-        self.steps = n;
-        self.next = p + 1;
-        self.limit = p + 1 + k;
-        self.depth = depth + 1;
-        self
-    }
-
-    // Up to `count` instructions, as far as the next BLOCK, the last step or the run's end. The state stays in place: passed
-    // to a method that stores at an index known at run time, it is copied.
-    fn advance(
+    // Up to `count` instructions, as far as the run goes. The state stays in place: passed to a method that stores at an index
+    // known at run time, it is copied.
+    pub fn step(
         mut self,
         code: &[u8],
         labels: &[u64],
@@ -315,196 +207,244 @@ impl State {
     {
         let mut todo = count;
         while 0 < todo {
-            if !self.ready(code) {
+            if !self.ready() {
                 return self;
             }
             todo = todo - 1;
             self = self.charge(1);
             let pc = self.pc;
             let top = self.top;
-            let first = least(top, 31);
-            let second = least(top + 1, 31);
-            let y = self.stack[first];
-            let x = self.stack[second];
-            let o = self.operands(y, x);
-            let account = self.account();
-            let d = decide(code, pc, o, account, labels, records, store);
-            let after = d.after;
+            // Where the two values on top lie, if they are there: read only where an instruction looks at them.
+            let first = values::least(top, 31);
+            let second = values::least(top + 1, 31);
+            let height = 32 - top;
+            let frames = 8 - self.newest;
+            let f = decode::decode(code, pc);
+            let after = f.after;
+            let i = f.instr;
+            self.pc = after;
+            // Decide,
+            let d = match operands::plan_of(i, height, frames, records) {
+                Plan::Do(d) => d,
+                Plan::Numbers(t) => {
+                    let v = self.stack[first];
+                    let u = self.stack[second];
+                    let y = v.datum;
+                    let x = u.datum;
+                    operands::on_numbers(t, y, x)
+                }
+                Plan::Labels(t) => {
+                    let v = self.stack[first];
+                    let u = self.stack[second];
+                    let y = v.datum;
+                    let x = u.datum;
+                    let account = self.account();
+                    effects::on_labels(t, y, x, account, store)
+                }
+            };
+            // then apply, in place.
             let k = d.takes;
             let e = d.effect;
-            self.pc = after;
             match e {
-                Effect::Fault(code, n) => {
-                    self = self.fail(code, n);
-                }
-                Effect::Throw(l, code, n) => {
-                    self = self.raise(l);
-                    self = self.fail(code, n);
+                Effect::Fault(by, code, n) => {
+                    let label = self.label;
+                    let l = effects::raised(label, by, store);
+                    self.label = l;
+                    let newest = self.newest;
+                    if newest == 8 {
+                        self = self.end(Ending::Fault(code, n));
+                    } else {
+                        let f = self.frames[newest];
+                        self = self.caught(f.handler, f.height, code, n);
+                    }
                 }
                 Effect::Drop => {
-                    self.top = top + k;
-                }
-                Effect::Push(d) => {
-                    let at = top + k - 1;
-                    self.stack[at] = Value { datum: d };
-                    self.top = at;
-                }
-                Effect::Get(i) => {
-                    let from = least(i, 15);
-                    let v = self.locals[from];
-                    let d = present(i, 16, v);
-                    let at = top + k - 1;
-                    self.stack[at] = Value { datum: d };
-                    self.top = at;
-                }
-                Effect::Set(i, d) => {
-                    self.top = top + k;
-                    if i < 16 {
-                        self.locals[i] = Value { datum: d };
-                    }
+                    self = self.pop(k);
                 }
                 Effect::Jump(t) => {
                     self.top = top + k;
                     self.pc = t;
                 }
-                Effect::Try(h) => {
+                Effect::Number(n) => {
+                    let at = top + k - 1;
+                    self.stack[at] = values::number(n);
+                    self.top = at;
+                }
+                Effect::Handle(kind, p) => {
+                    let at = top + k - 1;
+                    self.stack[at] = Value {
+                        datum: Datum::Handle(kind, p),
+                    };
+                    self.top = at;
+                }
+                Effect::Label(o) => {
+                    let v = self.stack[first];
+                    let u = self.stack[second];
+                    let y = v.datum;
+                    let x = u.datum;
+                    let label = self.label;
+                    let clearance = self.clearance;
+                    let l = effects::label_from(o, y, x, label, clearance, labels, store);
+                    let at = top + k - 1;
+                    self.stack[at] = Value {
+                        datum: Datum::Label(l),
+                    };
+                    self.top = at;
+                }
+                Effect::Get(i) => {
+                    let from = values::least(i, 15);
+                    let v = self.locals[from];
+                    let d = values::present(i, 16, v);
+                    let at = top + k - 1;
+                    self.stack[at] = Value { datum: d };
+                    self.top = at;
+                }
+                Effect::Set(i) => {
                     self.top = top + k;
-                    self = self.enter_try(h);
+                    if i < 16 {
+                        let v = self.stack[first];
+                        self.locals[i] = v;
+                    }
+                }
+                Effect::Try(h) => {
+                    let low = top + k;
+                    let newest = self.newest - 1;
+                    self.top = low;
+                    self.frames[newest] = Frame {
+                        handler: h,
+                        height: 32 - low,
+                    };
+                    self.newest = newest;
                 }
                 Effect::Done => {
-                    self.top = top + k;
                     let newest = self.newest;
                     self.newest = newest + 1;
-                }
-                Effect::End(d) => {
                     self.top = top + k;
-                    self = self.end(Ending::Result(d));
                 }
-                Effect::Raise(l) => {
-                    self.top = top + k;
+                Effect::End => {
+                    let v = self.stack[first];
+                    let d = v.datum;
+                    self = self.end(Ending::Result(values::same(d)));
+                }
+                Effect::Raise => {
+                    let v = self.stack[first];
+                    let l = values::label_in(v);
                     self = self.raise(l);
-                }
-                Effect::Lower(l) => {
                     self.top = top + k;
+                }
+                Effect::Lower => {
+                    let v = self.stack[first];
+                    let l = values::label_in(v);
                     self.clearance = l;
+                    self.top = top + k;
                 }
-                Effect::Make(d) => {
+                Effect::Make(kind) => {
+                    let v = self.stack[first];
+                    let u = self.stack[second];
+                    let x = u.datum;
                     let next = self.next;
-                    self.next = next + 1;
+                    let l = values::label_in(v);
+                    effects::keep(kind, l, x, next, store);
                     let at = top + k - 1;
-                    self.stack[at] = Value { datum: d };
+                    self.stack[at] = Value {
+                        datum: Datum::Handle(kind, next),
+                    };
                     self.top = at;
+                    self.next = next + 1;
                 }
-                Effect::Open(l, d) => {
+                Effect::Write(p) => {
+                    let u = self.stack[second];
+                    let x = u.datum;
+                    store::rewrite(store, p, x);
+                    self.top = top + k;
+                }
+                Effect::Open(p) => {
+                    let l = store::label_of(store, p);
+                    let d = store::value_of(store, p);
                     self = self.raise(l);
                     let at = top + k - 1;
                     self.stack[at] = Value { datum: d };
                     self.top = at;
                 }
-            }
-        }
-        self
-    }
-
-    // BLOCK. The body runs on a copy of the state, so label, clearance, stack and locals are the outer run's own afterwards.
-    fn block(mut self, code: &[u8], labels: &[u64], records: &[u8], store: &mut [u64]) -> State
-        requires { ⌜ Ok self × Live self × Sizes (now code) (now labels) (now store) × (byte (now code) (self .pc) ≡ 25) ⌝ }
-        ensures { λ r. ⌜ Ran r (slots (now (store .exit))) (stepOf (now (code .entry)) (now (labels .entry)) (now (records .entry)) self (slots (now (store .entry)))) ⌝ }
-    {
-        let pc = self.pc;
-        let t = decode::u16_at(code, pc + 1) as usize;
-        let n = decode::u16_at(code, pc + 3) as usize;
-        let k = decode::byte_at(code, pc + 5) as usize;
-        self = self.jump(pc + 6);
-        let top = self.top;
-        let first = least(top, 31);
-        let y = self.stack[first];
-        let d = present(top, 32, y);
-        let p = self.next;
-        let account = self.account();
-        let e = effects::enter(account, 32 - top, d, n, k);
-        match e {
-            Entry::Fault(code) => self.fail(code, 0),
-            Entry::Body(b) => {
-                let fin = self.body(t, n, k).run(code, labels, records, store);
-                let progress = fin.progress;
-                let l = fin.label;
-                let contents = effects::outcome(l, ending(progress), b);
-                store::save(
-                    store,
-                    p,
-                    Record {
-                        kind: Kind::Sealed,
-                        label: b,
-                        contents,
-                    },
-                );
-                self.charge(n).take(1 + k).pop(1).push(Value {
-                    datum: Datum::Handle(Kind::Sealed, p),
-                })
-            }
-        }
-    }
-
-    // One instruction.
-    pub fn step(mut self, code: &[u8], labels: &[u64], records: &[u8], store: &mut [u64]) -> State
-        requires { ⌜ Ok self × Live self × Sizes (now code) (now labels) (now store) × (0 < self .steps) ⌝ }
-        ensures { λ r. ⌜ Ran r (slots (now (store .exit))) (stepOf (now (code .entry)) (now (labels .entry)) (now (records .entry)) (charged 1 self) (slots (now (store .entry)))) ⌝ }
-    {
-        let pc = self.pc;
-        if decode::byte_at(code, pc) == BLOCK {
-            return self.charge(1).block(code, labels, records, store);
-        }
-        self.advance(code, labels, records, store, 1)
-    }
-
-    // A run to its end.
-    pub fn run(mut self, code: &[u8], labels: &[u64], records: &[u8], store: &mut [u64]) -> State
-        requires { ⌜ Ok self × Live self × Sizes (now code) (now labels) (now store) ⌝ }
-        ensures { λ r. ⌜ outcomeOf r (slots (now (store .exit))) ≡ runOf (now (code .entry)) (now (labels .entry)) (now (records .entry)) self (slots (now (store .entry))) ⌝ }
-    {
-        while self.live() {
-            let left = self.steps;
-            if left == 0 {
-                return self.end(Ending::Spent);
-            }
-            let pc = self.pc;
-            if decode::byte_at(code, pc) == BLOCK {
-                self = self.charge(1);
-                self = self.block(code, labels, records, store);
-            } else {
-                self = self.advance(code, labels, records, store, left);
+                // The body runs on a state of its own, so label, clearance, stack and frames are the outer run's own
+                // afterwards. Its outcome is sealed under the bound in the first of its places, which are paid with
+                // its steps, and the record's handle takes the bound's place on the stack.
+                Effect::Block(t, n, places) => {
+                    let v = self.stack[first];
+                    let b = values::label_in(v);
+                    let locals = self.locals;
+                    let next = self.next;
+                    let body = self.inside(n, places);
+                    let done = run(t, locals, body, code, labels, records, store);
+                    let l = done.label;
+                    let ending = done.ending;
+                    effects::conclude(b, l, ending, next, store);
+                    self = self.charge(n);
+                    self.next = next + 1 + places;
+                    let at = top + k - 1;
+                    self.stack[at] = Value {
+                        datum: Datum::Handle(Kind::Sealed, next),
+                    };
+                    self.top = at;
+                }
             }
         }
         self
     }
 }
 
-// A run that has not begun, with the places from `next` up to `limit` to fill.
-pub fn start(label: Label, clearance: Label, steps: usize, next: usize, limit: usize) -> State
-    requires { ⌜ (next ≤ limit) × (limit ≤ 256) ⌝ }
-    ensures { λ r. ⌜ Started r label clearance steps next limit ⌝ }
+// A run to its end, from pc on with these locals, an empty stack and no frames.
+pub fn run(
+    pc: usize,
+    locals: [Value; 16],
+    a: Account,
+    code: &[u8],
+    labels: &[u64],
+    records: &[u8],
+    store: &mut [u64],
+) -> Finished
+    requires { ⌜ (length locals ≡ 16) × (a .next ≤ a .limit) × (a .limit ≤ 256) × Sizes (now code) (now labels) (now store) ⌝ }
+    ensures { λ r. ⌜ Finishes r (slots (now (store .exit))) (runs (program (now (code .entry)) (now (labels .entry)) (now (records .entry))) (begun pc locals) (owned a) (slots (now (store .entry)))) ⌝ }
 {
+    let s = start(pc, locals, a);
+    let left = a.steps;
+    let r = s.step(code, labels, records, store, left);
+    let progress = r.progress;
+    let label = r.label;
+    let clearance = r.clearance;
+    Finished {
+        ending: ending(progress),
+        label: values::same_label(label),
+        clearance: values::same_label(clearance),
+        steps: r.steps,
+        next: r.next,
+    }
+}
+
+// A run that has not begun.
+fn start(pc: usize, locals: [Value; 16], a: Account) -> State
+    ensures { λ r. ⌜ r ≡ fresh pc locals a ⌝ }
+{
+    let label = a.label;
+    let clearance = a.clearance;
     State {
+        locals,
         stack: [Value {
             datum: Datum::Number(0),
         }; 32],
-        top: 32,
-        locals: [Value {
-            datum: Datum::Number(0),
-        }; 16],
         frames: [Frame {
             handler: 0,
             height: 0,
         }; 8],
+        top: 32,
         newest: 8,
         label,
         clearance,
-        steps,
-        next,
-        limit,
-        depth: 0,
-        pc: 0,
+        steps: a.steps,
+        next: a.next,
+        limit: a.limit,
+        depth: a.depth,
+        pc,
         progress: Progress {
             status: Status::Running,
         },
@@ -521,11 +461,28 @@ pub fn execute(
     steps: usize,
     places: usize,
     store: &mut [u64],
-) -> State
+) -> Finished
     requires { ⌜ Sizes (now code) (now labels) (now store) × (count (now records) ≤ places) × (places ≤ 256) ⌝ }
-    ensures { λ r. ⌜ outcomeOf r (slots (now (store .exit))) ≡ runs (program (now (code .entry)) (now (labels .entry)) (now (records .entry))) startControl (startAccount label clearance steps (count (now (records .entry))) places) (slots (now (store .entry))) ⌝ }
+    ensures { λ r. ⌜ Finishes r (slots (now (store .exit))) (runs (program (now (code .entry)) (now (labels .entry)) (now (records .entry))) startControl (startAccount label clearance steps (count (now (records .entry))) places) (slots (now (store .entry)))) ⌝ }
 {
     let next = records.len() / 6;
-    let s = start(label, clearance, steps, next, places);
-    s.run(code, labels, records, store)
+    let a = Account {
+        label,
+        clearance,
+        steps,
+        next,
+        limit: places,
+        depth: 0,
+    };
+    run(
+        0,
+        [Value {
+            datum: Datum::Number(0),
+        }; 16],
+        a,
+        code,
+        labels,
+        records,
+        store,
+    )
 }

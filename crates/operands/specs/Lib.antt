@@ -1,4 +1,3 @@
--- Plans: what the code makes of an instruction's operands. Bridge: that it is what the definition makes of them.
+-- Program: a file's parts as the machine's program. Plans: what the code makes of an instruction's operands.
 pub mod Program
 pub mod Plans
-pub mod Bridge

@@ -1,147 +1,144 @@
--- What the code makes of an instruction's operands.
-use mathlib.Core.Bool.{cond}
+-- What the code makes of an instruction's operands, as far as they are numbers: a decision, or a task for `effects`. These
+-- follow the code; `decision-performs` (effects/proofs/Bridge) ties them to the machine's definition.
+use mathlib.Core.Bool.{Bool, true, false, cond}
 use mathlib.Core.List.{List}
-use mathlib.Core.Path.{_≡_}
-use Prim.Native.Nat.{ℕ, _+_, _-_, _^_, _%_, _<_}
-use native.Mathlib.Omega.{arith}
-use lib.Dec.{leb, ltb, eqb}
+use Prim.Native.Nat.{ℕ, _+_, _-_, _*_, _^_, _%_}
+use lib.Dec.{ltb, eqb}
 use Rattle.labels.specs.declared.Label.{Label}
-use Rattle.labels.specs.Order.{flows, join, meet}
-use Rattle.model.specs.Operands.{truth}
-use Rattle.model.specs.declared.Arity.{Arity}
-use Rattle.model.specs.declared.Kind.{Kind}
+use Rattle.labels.specs.Order.{flows}
+use Rattle.model.specs.Decoding.{byte}
+use Rattle.model.specs.Inputs.{kindOf}
 use Rattle.model.specs.declared.Kind.the-variants.{Sealed, Reference}
 use Rattle.model.specs.declared.Datum.{Datum}
 use Rattle.model.specs.declared.Datum.the-variants.{Number, Label as Labelled, Handle}
 use Rattle.model.specs.declared.Instr.{Instr}
 use Rattle.model.specs.declared.Instr.the-variants.{End, Push, Lab, Get, Set, Pop, Add, Sub, Less, Same, Jump, Ifz, Cur, Clr, Raise, Lower, Flows, Join, Meet, Seal, Open, Labof, New, Read, Write, Block, Try, Done, Throw, Input}
+use Rattle.operands.specs.declared.By.the-variants.{None as NotRaised}
+use Rattle.operands.specs.declared.Origin.the-variants.{File, Current, Clearance, Join as JoinOf, Meet as MeetOf}
+use Rattle.operands.specs.declared.Effect.{Effect}
+use Rattle.operands.specs.declared.Effect.the-variants.{Fault, Drop, Jump as Jumps, Number as Gives, Handle as GivesHandle, Label as GivesLabel, Get as Gets, Set as Sets, Try as Tries, Done as Leaves, End as Ends}
+use Rattle.operands.specs.declared.Decision.{Decision}
+use Rattle.operands.specs.declared.Arith.{Arith}
+use Rattle.operands.specs.declared.Arith.the-variants.{Add as Adds, Sub as Subs, Less as Lesser, Same as Equal}
+use Rattle.operands.specs.declared.Test.{Test}
+use Rattle.operands.specs.declared.Test.the-variants.{Branch, Throw as Throws}
+use Rattle.operands.specs.declared.Pair.{Pair}
+use Rattle.operands.specs.declared.Pair.the-variants.{Flows as Flowing, Join as Joining, Meet as Meeting}
+use Rattle.operands.specs.declared.NumberTask.{NumberTask}
+use Rattle.operands.specs.declared.NumberTask.the-variants.{Test as OnOne, Arith as OnTwo}
+use Rattle.operands.specs.declared.OnLabel.the-variants.{Raise as Raises, Lower as Lowers, Make as Makes, Block as Blocks}
+use Rattle.operands.specs.declared.OnHandle.the-variants.{Open as Opens, Label as LabelOf, Write as Writes}
+use Rattle.operands.specs.declared.LabelTask.the-variants.{Pair as OnPair, Label as OnLabel, Handle as OnHandle}
 use Rattle.operands.specs.declared.Plan.{Plan}
-use Rattle.operands.specs.declared.Plan.the-variants.{Fault, Drop, Push as Pushes, Get as Gets, Set as Sets, Jump as Jumps, Try as Tries, Done as Leaves, End as Ends, Throw as Throws, Raise as Raises, Lower as Lowers, Label as LabelOf, Open as Opens, Make as Makes, Write as Writes}
-use Rattle.operands.specs.declared.Numbers.{Numbers}
-use Rattle.operands.specs.declared.Numbers.the-variants.{Both, Neither}
-use Rattle.operands.specs.declared.Labels.{Labels}
-use Rattle.operands.specs.declared.Labels.the-variants.{Both as BothLabels, Neither as NeitherLabel}
-use Rattle.operands.specs.declared.Operands.{Operands}
-use Rattle.model.specs.Words.{labelIn}
-use Rattle.operands.specs.Program.{inputAt}
+use Rattle.operands.specs.declared.Plan.the-variants.{Do, Numbers, Labels}
+use Rattle.operands.specs.Program.{count}
 
--- ── kinds of operand: 22 where it is another ──
+abbrev pub decided : ℕ → Effect → Decision
+decided k e = record { takes = k; effect = e }
 
-abbrev pub onNumber : Datum → (ℕ → Plan) → Plan
+-- a fault that raises no label, with number 0
+abbrev pub faulty : ℕ → Effect
+faulty code = Fault NotRaised code 0
+
+-- ── numbers: 22 where an operand is another ──
+
+abbrev pub onNumber : Datum → (ℕ → Effect) → Effect
 onNumber (Number n) k = k n
-onNumber (Labelled l) k = Fault 22
-onNumber (Handle h p) k = Fault 22
+onNumber (Labelled l) k = faulty 22
+onNumber (Handle h p) k = faulty 22
 
-abbrev pub onLabel : Datum → (Label → Plan) → Plan
-onLabel (Number n) k = Fault 22
-onLabel (Labelled l) k = k l
-onLabel (Handle h p) k = Fault 22
+-- 1 or 0
+abbrev pub bitOf : Bool → Effect
+bitOf true = Gives 1
+bitOf false = Gives 0
 
-abbrev pub onHandle : Datum → (Kind → ℕ → Plan) → Plan
-onHandle (Number n) k = Fault 22
-onHandle (Labelled l) k = Fault 22
-onHandle (Handle h p) k = k h p
+abbrev pub arithOf : Arith → ℕ → ℕ → Effect
+arithOf Adds y x = Gives ((x + y) % 2 ^ 32)
+arithOf Subs y x = Gives ((x + 2 ^ 32 - y) % 2 ^ 32)
+arithOf Lesser y x = bitOf (ltb x y)
+arithOf Equal y x = bitOf (eqb x y)
 
-abbrev pub onSealed : Kind → Plan → Plan
-onSealed Sealed p = p
-onSealed Reference p = Fault 22
+abbrev pub numbersOf : Arith → Datum → Datum → Effect
+numbersOf f y x = onNumber y (λ b. onNumber x (λ a. arithOf f b a))
 
-abbrev pub onReference : Kind → Plan → Plan
-onReference Sealed p = Fault 22
-onReference Reference p = p
+abbrev pub testOf : Test → ℕ → Effect
+testOf (Branch t) n = cond (eqb n 0) (Jumps t) Drop
+testOf Throws n = Fault NotRaised 30 n
 
-abbrev pub numbersOf : Datum → Datum → Numbers
-numbersOf (Number y) (Number x) = Both y x
-numbersOf (Number y) (Labelled l) = Neither
-numbersOf (Number y) (Handle h p) = Neither
-numbersOf (Labelled l) x = Neither
-numbersOf (Handle h p) x = Neither
+abbrev pub numberOf : Test → Datum → Effect
+numberOf f y = onNumber y (testOf f)
 
-abbrev pub onNumbers : Numbers → (ℕ → ℕ → Plan) → Plan
-onNumbers (Both y x) k = k y x
-onNumbers Neither k = Fault 22
+abbrev pub onNumbers : NumberTask → Datum → Datum → Decision
+onNumbers (OnOne f) y x = decided 1 (numberOf f y)
+onNumbers (OnTwo f) y x = decided 2 (numbersOf f y x)
 
-abbrev pub labelsOf : Datum → Datum → Labels
-labelsOf (Labelled m) (Labelled l) = BothLabels m l
-labelsOf (Labelled m) (Number n) = NeitherLabel
-labelsOf (Labelled m) (Handle h p) = NeitherLabel
-labelsOf (Number n) x = NeitherLabel
-labelsOf (Handle h p) x = NeitherLabel
+-- ── two labels ──
 
-abbrev pub onLabels : Labels → (Label → Label → Plan) → Plan
-onLabels (BothLabels m l) k = k m l
-onLabels NeitherLabel k = Fault 22
+abbrev pub labelOf : Datum → Label
+labelOf (Number n) = record { secrecy = 0; integrity = 0 }
+labelOf (Labelled l) = l
+labelOf (Handle h p) = record { secrecy = 0; integrity = 0 }
 
--- a difference of words, from what it is with the word taken away put back
-pub wrapped : (x y r : ℕ) → x < 2 ^ 32 → y < 2 ^ 32 → r < 2 ^ 32 → (r + y) % 2 ^ 32 ≡ x → r ≡ (x + 2 ^ 32 - y) % 2 ^ 32
-wrapped x y r a b h e = omega arith
+abbrev pub pairOf : Pair → Label → Label → Effect
+pairOf Flowing m l = bitOf (flows l m)
+pairOf Joining m l = GivesLabel JoinOf
+pairOf Meeting m l = GivesLabel MeetOf
 
--- ── the instructions ──
+abbrev pub withLabel : Datum → (Label → Effect) → Effect
+withLabel (Number n) k = faulty 22
+withLabel (Labelled l) k = k l
+withLabel (Handle h p) k = faulty 22
 
-abbrev pub addOf : Numbers → Plan
-addOf p = onNumbers p (λ y x. Pushes (Number ((x + y) % 2 ^ 32)))
+abbrev pub labelsOf : Pair → Datum → Datum → Effect
+labelsOf f y x = withLabel y (λ m. withLabel x (λ l. pairOf f m l))
 
-abbrev pub subOf : Numbers → Plan
-subOf p = onNumbers p (λ y x. Pushes (Number ((x + 2 ^ 32 - y) % 2 ^ 32)))
+-- ── the instructions: h values are on the stack, f frames are held ──
 
-abbrev pub lessOf : Numbers → Plan
-lessOf p = onNumbers p (λ y x. Pushes (truth (ltb x y)))
+-- 20
+abbrev pub shortOf : ℕ → ℕ → Plan → Plan
+shortOf h k p = cond (ltb h k) (Do (decided k (faulty 20))) p
 
-abbrev pub sameOf : Numbers → Plan
-sameOf p = onNumbers p (λ y x. Pushes (truth (eqb x y)))
+-- 21
+abbrev pub pushOf : ℕ → Effect → Plan
+pushOf h e = cond (ltb 31 h) (Do (decided 0 (faulty 21))) (Do (decided 0 e))
 
-abbrev pub flowsOf : Labels → Plan
-flowsOf p = onLabels p (λ m l. Pushes (truth (flows l m)))
-
-abbrev pub joinOf : Labels → Plan
-joinOf p = onLabels p (λ m l. Pushes (Labelled (join l m)))
-
-abbrev pub meetOf : Labels → Plan
-meetOf p = onLabels p (λ m l. Pushes (Labelled (meet l m)))
-
-abbrev pub branchOf : Datum → ℕ → Plan
-branchOf y t = onNumber y (λ n. cond (eqb n 0) (Jumps t) Drop)
-
-abbrev pub tryOf : ℕ → ℕ → Plan
-tryOf h f = cond (ltb f 8) (Tries h) (Fault 29)
+abbrev pub tryOf : ℕ → ℕ → ℕ → Plan
+tryOf h f t = cond (ltb 30 h) (Do (decided 0 (faulty 21))) (cond (ltb f 8) (Do (decided 0 (Tries t))) (Do (decided 0 (faulty 29))))
 
 abbrev pub doneOf : ℕ → Plan
-doneOf f = cond (eqb f 0) (Fault 29) Leaves
+doneOf f = cond (eqb f 0) (Do (decided 0 (faulty 29))) (Do (decided 0 Leaves))
 
-unfoldable pub operateOf : Instr → Operands → List ℕ → List ℕ → Plan
-operateOf End o ws rs = Ends (o .top)
-operateOf (Push n) o ws rs = Pushes (Number n)
-operateOf (Lab i) o ws rs = Pushes (Labelled (labelIn ws i))
-operateOf (Get i) o ws rs = Gets i
-operateOf (Set i) o ws rs = Sets i (o .top)
-operateOf Pop o ws rs = Drop
-operateOf Add o ws rs = addOf (numbersOf (o .top) (o .second))
-operateOf Sub o ws rs = subOf (numbersOf (o .top) (o .second))
-operateOf Less o ws rs = lessOf (numbersOf (o .top) (o .second))
-operateOf Same o ws rs = sameOf (numbersOf (o .top) (o .second))
-operateOf (Jump t) o ws rs = Jumps t
-operateOf (Ifz t) o ws rs = branchOf (o .top) t
-operateOf Cur o ws rs = Pushes (Labelled (o .label))
-operateOf Clr o ws rs = Pushes (Labelled (o .clearance))
-operateOf Raise o ws rs = onLabel (o .top) (λ l. Raises l)
-operateOf Lower o ws rs = onLabel (o .top) (λ l. Lowers l)
-operateOf Flows o ws rs = flowsOf (labelsOf (o .top) (o .second))
-operateOf Join o ws rs = joinOf (labelsOf (o .top) (o .second))
-operateOf Meet o ws rs = meetOf (labelsOf (o .top) (o .second))
-operateOf Seal o ws rs = onLabel (o .top) (λ l. Makes Sealed l (o .second))
-operateOf Open o ws rs = onHandle (o .top) (λ h p. onSealed h (Opens p))
-operateOf Labof o ws rs = onHandle (o .top) (λ h p. LabelOf p)
-operateOf New o ws rs = onLabel (o .top) (λ l. Makes Reference l (o .second))
-operateOf Read o ws rs = onHandle (o .top) (λ h p. onReference h (Opens p))
-operateOf Write o ws rs = onHandle (o .top) (λ h p. onReference h (Writes p (o .second)))
-operateOf (Block t n k) o ws rs = Fault 0
-operateOf (Try h) o ws rs = tryOf h (o .frames)
-operateOf Done o ws rs = doneOf (o .frames)
-operateOf Throw o ws rs = onNumber (o .top) (λ n. Throws n)
-operateOf (Input i) o ws rs = Pushes (inputAt rs i)
+abbrev pub inputOf : List ℕ → ℕ → Effect
+inputOf rs i = cond (ltb i (count rs)) (GivesHandle (kindOf (byte rs (6 * i))) i) (Gives 0)
 
-unfoldable pub planOf : Instr → Arity → Operands → List ℕ → List ℕ → Plan
-planOf i a o ws rs =
-    cond (leb (a .takes) (o .height))
-    (cond (leb (o .height - a .takes + a .leaves) 32) (operateOf i o ws rs) (Fault 21))
-    (Fault 20)
+unfoldable pub planOf : Instr → ℕ → ℕ → List ℕ → Plan
+planOf End h f rs = shortOf h 1 (Do (decided 1 Ends))
+planOf (Push n) h f rs = pushOf h (Gives n)
+planOf (Lab i) h f rs = pushOf h (GivesLabel (File i))
+planOf (Get i) h f rs = pushOf h (Gets i)
+planOf (Set i) h f rs = shortOf h 1 (Do (decided 1 (Sets i)))
+planOf Pop h f rs = shortOf h 1 (Do (decided 1 Drop))
+planOf Add h f rs = shortOf h 2 (Numbers (OnTwo Adds))
+planOf Sub h f rs = shortOf h 2 (Numbers (OnTwo Subs))
+planOf Less h f rs = shortOf h 2 (Numbers (OnTwo Lesser))
+planOf Same h f rs = shortOf h 2 (Numbers (OnTwo Equal))
+planOf (Jump t) h f rs = Do (decided 0 (Jumps t))
+planOf (Ifz t) h f rs = shortOf h 1 (Numbers (OnOne (Branch t)))
+planOf Cur h f rs = pushOf h (GivesLabel Current)
+planOf Clr h f rs = pushOf h (GivesLabel Clearance)
+planOf Raise h f rs = shortOf h 1 (Labels (OnLabel Raises))
+planOf Lower h f rs = shortOf h 1 (Labels (OnLabel Lowers))
+planOf Flows h f rs = shortOf h 2 (Labels (OnPair Flowing))
+planOf Join h f rs = shortOf h 2 (Labels (OnPair Joining))
+planOf Meet h f rs = shortOf h 2 (Labels (OnPair Meeting))
+planOf Seal h f rs = shortOf h 2 (Labels (OnLabel (Makes Sealed)))
+planOf Open h f rs = shortOf h 1 (Labels (OnHandle (Opens Sealed)))
+planOf Labof h f rs = shortOf h 1 (Labels (OnHandle LabelOf))
+planOf New h f rs = shortOf h 2 (Labels (OnLabel (Makes Reference)))
+planOf Read h f rs = shortOf h 1 (Labels (OnHandle (Opens Reference)))
+planOf Write h f rs = shortOf h 2 (Labels (OnHandle Writes))
+planOf (Block t n k) h f rs = shortOf h 1 (Labels (OnLabel (Blocks t n k)))
+planOf (Try t) h f rs = tryOf h f t
+planOf Done h f rs = doneOf f
+planOf Throw h f rs = shortOf h 1 (Numbers (OnOne Throws))
+planOf (Input i) h f rs = pushOf h (inputOf rs i)

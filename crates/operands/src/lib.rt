@@ -1,287 +1,246 @@
-// What an instruction makes of its operands: a fault 20, 21, 22 or 29, or what is left to be done.
+// What an instruction has to look at, and what it comes to on numbers: faults 20, 21, 22 and 29. Nothing that is answered
+// here holds a label or a value: an effect says where it lies.
 use labels::Label;
-use model::Arity;
 use model::Datum;
 use model::Instr;
 use model::Kind;
 ghost use mathlib.Core.Path.{_≡_};
-ghost use Prim.Native.Nat.{_^_, _<_, _≤_, _+_};
+ghost use Prim.Native.Nat.{_^_, _<_};
 ghost use lib.ListN.{length, getD};
-ghost use Rattle.model.specs.Operands.{truth};
 ghost use Rattle.model.specs.Inputs.{kindOf};
 ghost use Rattle.model.specs.Words.{labelIn};
-ghost use Rattle.operands.specs.Program.{inputAt};
-ghost use Rattle.operands.specs.Plans.{numbersOf, addOf, subOf, lessOf, sameOf, branchOf, labelsOf, flowsOf, joinOf, meetOf, onNumber, onLabel, onHandle, onSealed, onReference, tryOf, doneOf, operateOf, planOf};
+ghost use Rattle.operands.specs.Plans.{decided, bitOf, arithOf, numbersOf, testOf, numberOf, onNumbers, labelOf, pairOf, labelsOf, shortOf, pushOf, tryOf, doneOf, inputOf, planOf};
 
-// What is left to be done once the operands are dropped. BLOCK is not among these: it needs a run.
-pub enum Plan {
-    Fault(u32),
+// Where a label lies that is to be pushed.
+pub enum Origin {
+    // among the file's labels
+    File(usize),
+    Current,
+    Clearance,
+    // of the two labels on top
+    Join,
+    Meet,
+    // of the record at a place
+    Record(usize),
+}
+
+// What a fault raises the label by: nothing, or the label of the record at a place.
+pub enum By {
+    None,
+    Record(usize),
+}
+
+// What the run state has to take over: small words only. All but the two faults drop the operands first.
+pub enum Effect {
+    // what raises the label, code, number
+    Fault(By, u32, u32),
     Drop,
-    Push(Datum),
-    Get(usize),
-    Set(usize, Datum),
     Jump(usize),
+    Number(u32),
+    Handle(Kind, usize),
+    Label(Origin),
+    Get(usize),
+    Set(usize),
     Try(usize),
     Done,
-    End(Datum),
-    Throw(u32),
-    Raise(Label),
-    Lower(Label),
-    Label(usize),
+    End,
+    // by the label on top
+    Raise,
+    Lower,
+    // a record at the next place, under the label on top, of the value below it
+    Make(Kind),
+    // the value below the top into the record at a place
+    Write(usize),
+    // the value of the record at a place, by whose label the label is raised
     Open(usize),
-    Make(Kind, Label, Datum),
-    Write(usize, Datum),
+    // a body under the label on top: target, steps, places
+    Block(usize, usize, usize),
 }
 
-// What two operands are, the top one first.
-enum Numbers {
-    Both(u32, u32),
-    Neither,
+// How many operands an instruction takes, and what it does.
+pub struct Decision {
+    pub takes: usize,
+    pub effect: Effect,
 }
 
-enum Labels {
-    Both(Label, Label),
-    Neither,
+pub enum Arith {
+    Add,
+    Sub,
+    Less,
+    Same,
 }
 
-// The values that an instruction finds: the top two of the stack, label and clearance; and how many values and frames there are.
-pub struct Operands {
-    pub height: usize,
-    pub top: Datum,
-    pub second: Datum,
-    pub frames: usize,
-    pub label: Label,
-    pub clearance: Label,
+pub enum Test {
+    Branch(usize),
+    Throw,
+}
+
+pub enum Pair {
+    Flows,
+    Join,
+    Meet,
+}
+
+// What is done on numbers.
+pub enum NumberTask {
+    Test(Test),
+    Arith(Arith),
+}
+
+// What is done on a label, which lies on top.
+pub enum OnLabel {
+    Raise,
+    Lower,
+    // of the value below it
+    Make(Kind),
+    // target, steps, places
+    Block(usize, usize, usize),
+}
+
+// What is done on a handle, which lies on top.
+pub enum OnHandle {
+    // it is of this kind
+    Open(Kind),
+    Label,
+    // of the value below it
+    Write,
+}
+
+// What is done on labels and records.
+pub enum LabelTask {
+    Pair(Pair),
+    Label(OnLabel),
+    Handle(OnHandle),
+}
+
+// What is to be looked at, once there are operands and room enough.
+pub enum Plan {
+    // nothing
+    Do(Decision),
+    Numbers(NumberTask),
+    Labels(LabelTask),
+}
+
+fn decides(takes: usize, effect: Effect) -> Decision
+    ensures { λ r. ⌜ r ≡ decided takes effect ⌝ }
+{
+    Decision { takes, effect }
 }
 
 // ---- numbers
 
-fn both_numbers(y: Datum, x: Datum) -> Numbers
-    ensures { λ r. ⌜ r ≡ numbersOf y x ⌝ }
+fn bit(b: bool) -> Effect
+    ensures { λ r. ⌜ r ≡ bitOf b ⌝ }
+{
+    if b {
+        return Effect::Number(1);
+    }
+    Effect::Number(0)
+}
+
+fn computed(f: Arith, y: u32, x: u32) -> Effect
+    ensures { λ r. ⌜ r ≡ arithOf f y x ⌝ }
+{
+    match f {
+        Arith::Add => Effect::Number(std::num::wrapping_add_u32(x, y)),
+        Arith::Sub => Effect::Number(std::num::wrapping_sub_u32(x, y)),
+        Arith::Less => bit(x < y),
+        Arith::Same => bit(x == y),
+    }
+}
+
+// ADD, SUB, LESS, SAME.
+fn numbers(f: Arith, y: Datum, x: Datum) -> Effect
+    ensures { λ r. ⌜ r ≡ numbersOf f y x ⌝ }
 {
     match y {
         Datum::Number(b) => match x {
-            Datum::Number(a) => Numbers::Both(b, a),
-            Datum::Label(_) => Numbers::Neither,
-            Datum::Handle(_, _) => Numbers::Neither,
+            Datum::Number(a) => computed(f, b, a),
+            Datum::Label(_) => Effect::Fault(By::None, 22, 0),
+            Datum::Handle(_, _) => Effect::Fault(By::None, 22, 0),
         },
-        Datum::Label(_) => Numbers::Neither,
-        Datum::Handle(_, _) => Numbers::Neither,
+        Datum::Label(_) => Effect::Fault(By::None, 22, 0),
+        Datum::Handle(_, _) => Effect::Fault(By::None, 22, 0),
     }
 }
 
-fn add(pair: Numbers) -> Plan
-    ensures { λ r. ⌜ r ≡ addOf pair ⌝ }
+fn tested(f: Test, n: u32) -> Effect
+    ensures { λ r. ⌜ r ≡ testOf f n ⌝ }
 {
-    match pair {
-        Numbers::Both(y, x) => Plan::Push(Datum::Number(std::num::wrapping_add_u32(x, y))),
-        Numbers::Neither => Plan::Fault(22),
-    }
-}
-
-fn sub(pair: Numbers) -> Plan
-    ensures { λ r. ⌜ r ≡ subOf pair ⌝ }
-{
-    match pair {
-        Numbers::Both(y, x) => Plan::Push(Datum::Number(std::num::wrapping_sub_u32(x, y))),
-        Numbers::Neither => Plan::Fault(22),
-    }
-}
-
-fn less(pair: Numbers) -> Plan
-    ensures { λ r. ⌜ r ≡ lessOf pair ⌝ }
-{
-    match pair {
-        Numbers::Both(y, x) => Plan::Push(truth(x < y)),
-        Numbers::Neither => Plan::Fault(22),
-    }
-}
-
-fn same(pair: Numbers) -> Plan
-    ensures { λ r. ⌜ r ≡ sameOf pair ⌝ }
-{
-    match pair {
-        Numbers::Both(y, x) => Plan::Push(truth(x == y)),
-        Numbers::Neither => Plan::Fault(22),
-    }
-}
-
-fn truth(b: bool) -> Datum
-    ensures { λ r. ⌜ r ≡ truth b ⌝ }
-{
-    if b {
-        return Datum::Number(1);
-    }
-    Datum::Number(0)
-}
-
-fn branch(y: Datum, t: usize) -> Plan
-    ensures { λ r. ⌜ r ≡ branchOf y t ⌝ }
-{
-    match y {
-        Datum::Number(n) => {
+    match f {
+        Test::Branch(t) => {
             if n == 0 {
-                return Plan::Jump(t);
+                return Effect::Jump(t);
             }
-            Plan::Drop
+            Effect::Drop
         }
-        Datum::Label(_) => Plan::Fault(22),
-        Datum::Handle(_, _) => Plan::Fault(22),
+        Test::Throw => Effect::Fault(By::None, 30, n),
     }
 }
 
-fn throw(y: Datum) -> Plan
-    ensures { λ r. ⌜ r ≡ onNumber y (λ n. Plan.Throw n) ⌝ }
+// IFZ, THROW.
+fn number(f: Test, y: Datum) -> Effect
+    ensures { λ r. ⌜ r ≡ numberOf f y ⌝ }
 {
     match y {
-        Datum::Number(n) => Plan::Throw(n),
-        Datum::Label(_) => Plan::Fault(22),
-        Datum::Handle(_, _) => Plan::Fault(22),
+        Datum::Number(n) => tested(f, n),
+        Datum::Label(_) => Effect::Fault(By::None, 22, 0),
+        Datum::Handle(_, _) => Effect::Fault(By::None, 22, 0),
+    }
+}
+
+// What the top two of the stack come to as numbers.
+pub fn on_numbers(t: NumberTask, y: Datum, x: Datum) -> Decision
+    ensures { λ r. ⌜ r ≡ onNumbers t y x ⌝ }
+{
+    match t {
+        NumberTask::Test(f) => decides(1, number(f, y)),
+        NumberTask::Arith(f) => decides(2, numbers(f, y, x)),
     }
 }
 
 // ---- labels
 
-fn both_labels(y: Datum, x: Datum) -> Labels
-    ensures { λ r. ⌜ r ≡ labelsOf y x ⌝ }
+// The label that a datum is; ⟨0, 0⟩ for any other.
+pub fn label_of(d: Datum) -> Label
+    ensures { λ r. ⌜ r ≡ labelOf d ⌝ }
+{
+    match d {
+        Datum::Number(_) => Label {
+            secrecy: 0,
+            integrity: 0,
+        },
+        Datum::Label(l) => l,
+        Datum::Handle(_, _) => Label {
+            secrecy: 0,
+            integrity: 0,
+        },
+    }
+}
+
+fn of_pair(f: Pair, m: Label, l: Label) -> Effect
+    ensures { λ r. ⌜ r ≡ pairOf f m l ⌝ }
+{
+    match f {
+        Pair::Flows => bit(labels::flows(l, m)),
+        Pair::Join => Effect::Label(Origin::Join),
+        Pair::Meet => Effect::Label(Origin::Meet),
+    }
+}
+
+// FLOWS, JOIN, MEET.
+pub fn two_labels(f: Pair, y: Datum, x: Datum) -> Effect
+    ensures { λ r. ⌜ r ≡ labelsOf f y x ⌝ }
 {
     match y {
+        Datum::Number(_) => Effect::Fault(By::None, 22, 0),
         Datum::Label(m) => match x {
-            Datum::Label(l) => Labels::Both(m, l),
-            Datum::Number(_) => Labels::Neither,
-            Datum::Handle(_, _) => Labels::Neither,
+            Datum::Number(_) => Effect::Fault(By::None, 22, 0),
+            Datum::Label(l) => of_pair(f, m, l),
+            Datum::Handle(_, _) => Effect::Fault(By::None, 22, 0),
         },
-        Datum::Number(_) => Labels::Neither,
-        Datum::Handle(_, _) => Labels::Neither,
+        Datum::Handle(_, _) => Effect::Fault(By::None, 22, 0),
     }
-}
-
-fn flows(pair: Labels) -> Plan
-    ensures { λ r. ⌜ r ≡ flowsOf pair ⌝ }
-{
-    match pair {
-        Labels::Both(m, l) => Plan::Push(truth(labels::flows(l, m))),
-        Labels::Neither => Plan::Fault(22),
-    }
-}
-
-fn join(pair: Labels) -> Plan
-    ensures { λ r. ⌜ r ≡ joinOf pair ⌝ }
-{
-    match pair {
-        Labels::Both(m, l) => Plan::Push(Datum::Label(labels::join(l, m))),
-        Labels::Neither => Plan::Fault(22),
-    }
-}
-
-fn meet(pair: Labels) -> Plan
-    ensures { λ r. ⌜ r ≡ meetOf pair ⌝ }
-{
-    match pair {
-        Labels::Both(m, l) => Plan::Push(Datum::Label(labels::meet(l, m))),
-        Labels::Neither => Plan::Fault(22),
-    }
-}
-
-fn raise(y: Datum) -> Plan
-    ensures { λ r. ⌜ r ≡ onLabel y (λ l. Plan.Raise l) ⌝ }
-{
-    match y {
-        Datum::Number(_) => Plan::Fault(22),
-        Datum::Label(l) => Plan::Raise(l),
-        Datum::Handle(_, _) => Plan::Fault(22),
-    }
-}
-
-fn lower(y: Datum) -> Plan
-    ensures { λ r. ⌜ r ≡ onLabel y (λ l. Plan.Lower l) ⌝ }
-{
-    match y {
-        Datum::Number(_) => Plan::Fault(22),
-        Datum::Label(l) => Plan::Lower(l),
-        Datum::Handle(_, _) => Plan::Fault(22),
-    }
-}
-
-// ---- records
-
-fn make(kind: Kind, y: Datum, x: Datum) -> Plan
-    ensures { λ r. ⌜ r ≡ onLabel y (λ l. Plan.Make kind l x) ⌝ }
-{
-    match y {
-        Datum::Number(_) => Plan::Fault(22),
-        Datum::Label(l) => Plan::Make(kind, l, x),
-        Datum::Handle(_, _) => Plan::Fault(22),
-    }
-}
-
-fn label_of(y: Datum) -> Plan
-    ensures { λ r. ⌜ r ≡ onHandle y (λ h p. Plan.Label p) ⌝ }
-{
-    match y {
-        Datum::Number(_) => Plan::Fault(22),
-        Datum::Label(_) => Plan::Fault(22),
-        Datum::Handle(_, p) => Plan::Label(p),
-    }
-}
-
-fn open(y: Datum) -> Plan
-    ensures { λ r. ⌜ r ≡ onHandle y (λ h p. onSealed h (Plan.Open p)) ⌝ }
-{
-    match y {
-        Datum::Number(_) => Plan::Fault(22),
-        Datum::Label(_) => Plan::Fault(22),
-        Datum::Handle(kind, p) => match kind {
-            Kind::Sealed => Plan::Open(p),
-            Kind::Reference => Plan::Fault(22),
-        },
-    }
-}
-
-fn read(y: Datum) -> Plan
-    ensures { λ r. ⌜ r ≡ onHandle y (λ h p. onReference h (Plan.Open p)) ⌝ }
-{
-    match y {
-        Datum::Number(_) => Plan::Fault(22),
-        Datum::Label(_) => Plan::Fault(22),
-        Datum::Handle(kind, p) => match kind {
-            Kind::Sealed => Plan::Fault(22),
-            Kind::Reference => Plan::Open(p),
-        },
-    }
-}
-
-fn write(y: Datum, x: Datum) -> Plan
-    ensures { λ r. ⌜ r ≡ onHandle y (λ h p. onReference h (Plan.Write p x)) ⌝ }
-{
-    match y {
-        Datum::Number(_) => Plan::Fault(22),
-        Datum::Label(_) => Plan::Fault(22),
-        Datum::Handle(kind, p) => match kind {
-            Kind::Sealed => Plan::Fault(22),
-            Kind::Reference => Plan::Write(p, x),
-        },
-    }
-}
-
-// ---- frames
-
-fn try_frame(h: usize, frames: usize) -> Plan
-    ensures { λ r. ⌜ r ≡ tryOf h frames ⌝ }
-{
-    if frames < 8 {
-        return Plan::Try(h);
-    }
-    Plan::Fault(29)
-}
-
-fn done(frames: usize) -> Plan
-    ensures { λ r. ⌜ r ≡ doneOf frames ⌝ }
-{
-    if frames == 0 {
-        return Plan::Fault(29);
-    }
-    Plan::Done
 }
 
 // ---- the file's own values
@@ -322,70 +281,114 @@ pub fn kind_of(b: u8) -> Kind
     Kind::Reference
 }
 
-// The handle of input record i, whose place is i.
-pub fn input_at(records: &[u8], i: usize) -> Datum
-    ensures { λ r. ⌜ r ≡ inputAt (now (records .entry)) i ⌝ }
+// INPUT: the handle of input record i, whose place is i.
+fn input(records: &[u8], i: usize) -> Effect
+    ensures { λ r. ⌜ r ≡ inputOf (now (records .entry)) i ⌝ }
 {
     if records.len() / 6 <= i {
-        return Datum::Number(0);
+        return Effect::Number(0);
     }
-    Datum::Handle(kind_of(records[6 * i]), i)
+    Effect::Handle(kind_of(records[6 * i]), i)
 }
 
 // ---- the instructions
 
-fn operate(i: Instr, o: Operands, labels: &[u64], records: &[u8]) -> Plan
-    requires { ⌜ length (now labels) < 2 ^ 32 ⌝ }
-    ensures { λ r. ⌜ r ≡ operateOf i o (now (labels .entry)) (now (records .entry)) ⌝ }
+// Fault 20.
+fn short(height: usize, takes: usize, p: Plan) -> Plan
+    ensures { λ r. ⌜ r ≡ shortOf height takes p ⌝ }
 {
-    let y = o.top;
-    let x = o.second;
-    let label = o.label;
-    let clearance = o.clearance;
-    match i {
-        Instr::End => Plan::End(y),
-        Instr::Push(n) => Plan::Push(Datum::Number(n)),
-        Instr::Lab(j) => Plan::Push(Datum::Label(label_at(labels, j))),
-        Instr::Get(j) => Plan::Get(j),
-        Instr::Set(j) => Plan::Set(j, y),
-        Instr::Pop => Plan::Drop,
-        Instr::Add => add(both_numbers(y, x)),
-        Instr::Sub => sub(both_numbers(y, x)),
-        Instr::Less => less(both_numbers(y, x)),
-        Instr::Same => same(both_numbers(y, x)),
-        Instr::Jump(t) => Plan::Jump(t),
-        Instr::Ifz(t) => branch(y, t),
-        Instr::Cur => Plan::Push(Datum::Label(label)),
-        Instr::Clr => Plan::Push(Datum::Label(clearance)),
-        Instr::Raise => raise(y),
-        Instr::Lower => lower(y),
-        Instr::Flows => flows(both_labels(y, x)),
-        Instr::Join => join(both_labels(y, x)),
-        Instr::Meet => meet(both_labels(y, x)),
-        Instr::Seal => make(Kind::Sealed, y, x),
-        Instr::Open => open(y),
-        Instr::Labof => label_of(y),
-        Instr::New => make(Kind::Reference, y, x),
-        Instr::Read => read(y),
-        Instr::Write => write(y, x),
-        Instr::Block(_, _, _) => Plan::Fault(0),
-        Instr::Try(h) => try_frame(h, o.frames),
-        Instr::Done => done(o.frames),
-        Instr::Throw => throw(y),
-        Instr::Input(j) => Plan::Push(input_at(records, j)),
+    if height < takes {
+        return Plan::Do(decides(takes, Effect::Fault(By::None, 20, 0)));
     }
+    p
 }
 
-pub fn plan_of(i: Instr, a: Arity, o: Operands, labels: &[u64], records: &[u8]) -> Plan
-    requires { ⌜ (length (now labels) < 2 ^ 32) × (o .height ≤ 32) ⌝ }
-    ensures { λ r. ⌜ r ≡ planOf i a o (now (labels .entry)) (now (records .entry)) ⌝ }
+// Fault 21.
+fn push(height: usize, e: Effect) -> Plan
+    ensures { λ r. ⌜ r ≡ pushOf height e ⌝ }
 {
-    if o.height < a.takes {
-        return Plan::Fault(20);
+    if 31 < height {
+        return Plan::Do(decides(0, Effect::Fault(By::None, 21, 0)));
     }
-    let kept = o.height - a.takes;
-    if 32 - kept < a.leaves {
-        return Plan::Fault(21);
+    Plan::Do(decides(0, e))
+}
+
+// TRY: its handler gets a code and a number.
+fn try_frame(height: usize, frames: usize, h: usize) -> Plan
+    ensures { λ r. ⌜ r ≡ tryOf height frames h ⌝ }
+{
+    if 30 < height {
+        return Plan::Do(decides(0, Effect::Fault(By::None, 21, 0)));
     }
-    operate(i, o, labels, records)
+    if frames < 8 {
+        return Plan::Do(decides(0, Effect::Try(h)));
+    }
+    Plan::Do(decides(0, Effect::Fault(By::None, 29, 0)))
+}
+
+fn done(frames: usize) -> Plan
+    ensures { λ r. ⌜ r ≡ doneOf frames ⌝ }
+{
+    if frames == 0 {
+        return Plan::Do(decides(0, Effect::Fault(By::None, 29, 0)));
+    }
+    Plan::Do(decides(0, Effect::Done))
+}
+
+// What an instruction has to look at, with so many values and frames.
+pub fn plan_of(i: Instr, height: usize, frames: usize, records: &[u8]) -> Plan
+    ensures { λ r. ⌜ r ≡ planOf i height frames (now (records .entry)) ⌝ }
+{
+    match i {
+        Instr::End => short(height, 1, Plan::Do(decides(1, Effect::End))),
+        Instr::Push(n) => push(height, Effect::Number(n)),
+        Instr::Lab(j) => push(height, Effect::Label(Origin::File(j))),
+        Instr::Get(j) => push(height, Effect::Get(j)),
+        Instr::Set(j) => short(height, 1, Plan::Do(decides(1, Effect::Set(j)))),
+        Instr::Pop => short(height, 1, Plan::Do(decides(1, Effect::Drop))),
+        Instr::Add => short(height, 2, Plan::Numbers(NumberTask::Arith(Arith::Add))),
+        Instr::Sub => short(height, 2, Plan::Numbers(NumberTask::Arith(Arith::Sub))),
+        Instr::Less => short(height, 2, Plan::Numbers(NumberTask::Arith(Arith::Less))),
+        Instr::Same => short(height, 2, Plan::Numbers(NumberTask::Arith(Arith::Same))),
+        Instr::Jump(t) => Plan::Do(decides(0, Effect::Jump(t))),
+        Instr::Ifz(t) => short(height, 1, Plan::Numbers(NumberTask::Test(Test::Branch(t)))),
+        Instr::Cur => push(height, Effect::Label(Origin::Current)),
+        Instr::Clr => push(height, Effect::Label(Origin::Clearance)),
+        Instr::Raise => short(height, 1, Plan::Labels(LabelTask::Label(OnLabel::Raise))),
+        Instr::Lower => short(height, 1, Plan::Labels(LabelTask::Label(OnLabel::Lower))),
+        Instr::Flows => short(height, 2, Plan::Labels(LabelTask::Pair(Pair::Flows))),
+        Instr::Join => short(height, 2, Plan::Labels(LabelTask::Pair(Pair::Join))),
+        Instr::Meet => short(height, 2, Plan::Labels(LabelTask::Pair(Pair::Meet))),
+        Instr::Seal => short(
+            height,
+            2,
+            Plan::Labels(LabelTask::Label(OnLabel::Make(Kind::Sealed))),
+        ),
+        Instr::Open => short(
+            height,
+            1,
+            Plan::Labels(LabelTask::Handle(OnHandle::Open(Kind::Sealed))),
+        ),
+        Instr::Labof => short(height, 1, Plan::Labels(LabelTask::Handle(OnHandle::Label))),
+        Instr::New => short(
+            height,
+            2,
+            Plan::Labels(LabelTask::Label(OnLabel::Make(Kind::Reference))),
+        ),
+        Instr::Read => short(
+            height,
+            1,
+            Plan::Labels(LabelTask::Handle(OnHandle::Open(Kind::Reference))),
+        ),
+        Instr::Write => short(height, 2, Plan::Labels(LabelTask::Handle(OnHandle::Write))),
+        Instr::Block(t, n, k) => short(
+            height,
+            1,
+            Plan::Labels(LabelTask::Label(OnLabel::Block(t, n, k))),
+        ),
+        Instr::Try(h) => try_frame(height, frames, h),
+        Instr::Done => done(frames),
+        Instr::Throw => short(height, 1, Plan::Numbers(NumberTask::Test(Test::Throw))),
+        Instr::Input(j) => push(height, input(records, j)),
+    }
 }

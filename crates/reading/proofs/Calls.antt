@@ -2,7 +2,7 @@
 use mathlib.Core.Bool.{false}
 use mathlib.Core.List.{List}
 use mathlib.Core.Path.{_≡_, refl, sym, ap, _∙_}
-use Prim.Native.Nat.{ℕ, _-_, _^_, _≤_, _<_}
+use Prim.Native.Nat.{ℕ, _^_, _≤_, _<_}
 use native.Mathlib.Omega.{arith}
 use borrow.Author.Tests.{lt-ltb, le-ltb, lt-leb, le-leb}
 use lib.Dec.{eqb}
@@ -11,12 +11,11 @@ use Rattle.labels.specs.declared.Label.{Label}
 use Rattle.model.specs.State.{Store, Outcome}
 use Rattle.model.specs.Inputs.{inputs, inputSlots}
 use Rattle.model.specs.Running.{runs, startControl, startAccount, startStore}
-use Rattle.machine.specs.State.{outcomeOf}
-use Rattle.machine.specs.declared.State.{State}
+use Rattle.machine.specs.Steps.{Finishes as Left}
+use Rattle.machine.specs.declared.Finished.{Finished}
 use Rattle.model.specs.Words.{labelIn}
 use Rattle.operands.specs.Program.{count, program}
-use Rattle.store.specs.Chunks.{parts}
-use Rattle.store.specs.Slots.{slots}
+use Rattle.store.specs.Slots.{parts, slots}
 use Rattle.script_file.specs.Sections.{header, recordBytes, codeBytes, fileLabels, orNone, labelAt}
 use Rattle.script_file.specs.Checks.{refusal}
 use Rattle.model.proofs.Tests.{cond-one}
@@ -90,16 +89,17 @@ module _ (bs : List ℕ) (h : Header) (ws : List ℕ) (w : Loads bs h ws) where
   run-is l c σ el ec es =
       rw (el, ec, es, records-are, code-is, w .numbers, w .labels, program-is bs (w .none), labels-are bs (w .none), records-counted bs (w .none))
 
-pub finishes : (f : Finish) (s : State) (σ : Store) (o : Outcome) → Leaves f s → outcomeOf s σ ≡ o → Finishes f σ o
-finishes f s σ o w e =
-    record {
-      ending = ap (λ (q : Outcome). q .ending) (sym e) ∙ sym (w .ending);
-      label = ap (λ (q : Outcome). q .account .label) (sym e) ∙ sym (w .label);
-      clearance = ap (λ (q : Outcome). q .account .clearance) (sym e) ∙ sym (w .clearance);
-      steps = ap (λ (q : Outcome). q .account .steps) (sym e) ∙ sym (w .steps);
-      next = ap (λ (q : Outcome). q .account .next) (sym e) ∙ sym (w .next);
-      store = ap (λ (q : Outcome). q .store) (sym e);
-    }
+pub finishes : (f : Finish) (s : Finished) (σ : Store) (p o : Outcome) → Leaves f s → Left s σ p → p ≡ o → Finishes f σ o
+finishes f s σ p o w e q =
+    rw (← q)
+    (record {
+      ending = e .ending ∙ sym (w .ending);
+      label = e .label ∙ sym (w .label);
+      clearance = e .clearance ∙ sym (w .clearance);
+      steps = e .steps ∙ sym (w .steps);
+      next = e .next ∙ sym (w .next);
+      store = e .store;
+    })
 
 pub no-records : slots (replicate 1536 0) ≡ noRecords
 unfolding slots parts

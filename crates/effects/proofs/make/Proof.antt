@@ -1,29 +1,17 @@
-use borrow.Author.Tests.{eq-eqb, ne-eqb, lt-ltb, le-ltb, lt-leb, le-leb, not-true, not-false}
+-- `effects::make` meets its contract.
+use borrow.Author.Tests.{eq-eqb, ne-eqb, lt-ltb, le-ltb}
 use borrow.Author.Needs.{needs}
 use Rattle.effects.proofs.make.Statement.{statement}
 use Rattle.effects.proofs.make.Tie as tie
-use Rattle.effects.proofs.make.Reads as reads
-use Rattle.effects.proofs.target.Reads as target-reads
-use Rattle.store.proofs.save.Reads as save-reads
-
-target-requires : tie.Need-target-requires
-target-requires c κs = search needs
 
 returns : tie.Need-returns
-returns c = rw (← c .before .target .ensures, ne-eqb _ _ (c .if1 .taken))
+returns c = let t : tie.After-target = search in rw (← t .target .ensures, ne-eqb _ _ (c .if1 .taken))
 
 returns-2 : tie.Need-returns-2
-returns-2 c = rw (← c .before .before .before .target .ensures, eq-eqb (c .before .before .before .target .result) 0 (c .before .before .if1 .left), le-ltb _ _ (c .if2 .taken))
-
-save-requires : tie.Need-save-requires
-save-requires c κs = search needs
-
-same-length : tie.Need-same-length
-same-length c = search needs
+returns-2 c = let i : tie.Else1 = search in let t : tie.After-target = search in rw (← t .target .ensures, eq-eqb (t .target .result) 0 (i .if1 .left), le-ltb _ _ (c .if2 .taken))
 
 returns-3 : tie.Need-returns-3
-returns-3 c = rw (c .before .before .save .ensures, ← c .before .before .before .before .before .before .before .target .ensures, eq-eqb (c .before .before .before .before .before .before .before .target .result) 0 (c .before .before .before .before .before .before .if1 .left), lt-ltb _ _ (c .before .before .before .before .if2 .left))
+returns-3 c = let i : tie.Else1 = search in let t : tie.After-target = search in rw (← t .target .ensures, eq-eqb (t .target .result) 0 (i .if1 .left), lt-ltb _ _ (c .if2 .left))
 
 pub make-spec : {M : Type 1} → statement M
-make-spec =
-    tie.close (tie.spec target-requires returns returns-2 save-requires same-length returns-3)
+make-spec = tie.close (tie.spec (λ c κs. search needs) returns returns-2 returns-3)

@@ -1,5 +1,5 @@
 -- `operands::kind_of` meets its contract.
-use Rattle.operands.specs.Program.{kind-other}
+use Rattle.operands.proofs.Inputs.{kind-other}
 use borrow.Author.Needs.{needs}
 use Rattle.operands.proofs.kind_of.Statement.{statement}
 use Rattle.operands.proofs.kind_of.Tie as tie

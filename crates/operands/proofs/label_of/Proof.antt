@@ -1,25 +1,13 @@
+-- `operands::label_of` meets its contract.
 use borrow.Author.Needs.{needs}
 use Rattle.operands.proofs.label_of.Statement.{statement}
 use Rattle.operands.proofs.label_of.Tie as tie
-use Rattle.operands.proofs.label_of.Reads as reads
-
-enum-told : tie.Need-enum-told
-enum-told c = search needs
-
-enum-told-2 : tie.Need-enum-told-2
-enum-told-2 c = search needs
-
-enum-known-y : tie.Need-enum-known-y
-enum-known-y c = search needs
 
 returns : tie.Need-returns
-returns c = search needs
-
-returns-2 : tie.Need-returns-2
-returns-2 c = search needs
+returns c = rw (c .enum-told .given .1)
 
 returns-3 : tie.Need-returns-3
-returns-3 c = rw (c .before .y .given .1)
+returns-3 c = rw (c .enum-told2 .given .1)
 
 pub label-of-spec : {M : Type 1} → statement M
-label-of-spec = tie.close (tie.spec enum-told enum-told-2 enum-known-y returns returns-2 returns-3)
+label-of-spec = tie.close (tie.spec (λ c. search needs) (λ c. search needs) (λ c. search needs) returns (λ c. search needs) returns-3)

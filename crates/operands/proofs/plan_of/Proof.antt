@@ -1,40 +1,224 @@
-use Rattle.operands.specs.Plans.{planOf}
-use Prim.Native.Nat.{_+_, _-_, _≤_, _<_}
-use native.Mathlib.Omega.{arith}
-use borrow.Author.Tests.{lt-leb, le-leb}
+-- `operands::plan_of` meets its contract.
 use borrow.Author.Needs.{needs}
+use Rattle.operands.specs.Plans.{planOf}
 use Rattle.operands.proofs.plan_of.Statement.{statement}
 use Rattle.operands.proofs.plan_of.Tie as tie
-use Rattle.operands.proofs.plan_of.Reads as reads
-use Rattle.operands.proofs.plan_of.Lts as lts
-use Rattle.operands.proofs.operate.Reads as operate-reads
 
--- src/lib.rt:384:9
 returns : tie.Need-returns
 unfolding planOf
-returns c = rw (lt-leb _ _ (c .if1 .taken))
+returns c = let a : tie.After-decides = search in let t : tie.After-enum-told = search in rw (t .enum-told .given .1) (rw (a .decides .ensures) at (c .short .ensures))
 
--- src/lib.rt:387:8
-sub-if2 : tie.Need-sub-if2
-sub-if2 c = search needs
-
--- src/lib.rt:388:9
 returns-2 : tie.Need-returns-2
 unfolding planOf
-returns-2 c =
-    let over : 32 < c .before .before .before .before .before .before .before .before .before .args .o .height - c .before .before .before .before .before .before .before .before .before .args .a .takes + c .before .before .before .before .before .before .before .before .before .args .a .leaves = omega (arith, c .if2 .taken, c .before .before .before .before .if1 .left, c .before .before .before .before .before .before .before .before .before .pre .1) in
-    rw (le-leb _ _ (c .before .before .before .before .if1 .left), lt-leb _ _ over)
+returns-2 c = let t : tie.After-i = search in rw (t .i .given .1) (c .push .ensures)
 
--- src/lib.rt:390:5
-operate-requires : tie.Need-operate-requires
-operate-requires c κs = search needs
-
--- src/lib.rt:379:1
 returns-3 : tie.Need-returns-3
 unfolding planOf
-returns-3 c =
-    let room : c .before .before .before .before .before .before .before .before .before .before .args .o .height - c .before .before .before .before .before .before .before .before .before .before .args .a .takes + c .before .before .before .before .before .before .before .before .before .before .args .a .leaves ≤ 32 = omega (arith, c .before .if2 .left, c .before .before .before .before .before .if1 .left, c .before .before .before .before .before .before .before .before .before .before .pre .1) in
-    rw (c .operate .ensures, le-leb _ _ (c .before .before .before .before .before .if1 .left), le-leb _ _ room)
+returns-3 c = let t : tie.After-i2 = search in rw (t .i2 .given .1) (c .push2 .ensures)
+
+returns-4 : tie.Need-returns-4
+unfolding planOf
+returns-4 c = let t : tie.After-i3 = search in rw (t .i3 .given .1) (c .push3 .ensures)
+
+returns-5 : tie.Need-returns-5
+unfolding planOf
+returns-5 c = let a : tie.After-decides2 = search in let t : tie.After-i4 = search in rw (t .i4 .given .1) (rw (a .decides2 .ensures) at (c .short2 .ensures))
+
+returns-6 : tie.Need-returns-6
+unfolding planOf
+returns-6 c = let a : tie.After-decides3 = search in let t : tie.After-enum-told2 = search in rw (t .enum-told2 .given .1) (rw (a .decides3 .ensures) at (c .short3 .ensures))
+
+returns-7 : tie.Need-returns-7
+unfolding planOf
+returns-7 c = let t : tie.After-enum-told3 = search in rw (t .enum-told3 .given .1) (c .short4 .ensures)
+
+returns-8 : tie.Need-returns-8
+unfolding planOf
+returns-8 c = let t : tie.After-enum-told4 = search in rw (t .enum-told4 .given .1) (c .short5 .ensures)
+
+returns-9 : tie.Need-returns-9
+unfolding planOf
+returns-9 c = let t : tie.After-enum-told5 = search in rw (t .enum-told5 .given .1) (c .short6 .ensures)
+
+returns-10 : tie.Need-returns-10
+unfolding planOf
+returns-10 c = let t : tie.After-enum-told6 = search in rw (t .enum-told6 .given .1) (c .short7 .ensures)
+
+returns-11 : tie.Need-returns-11
+unfolding planOf
+returns-11 c = let t : tie.After-i5 = search in rw (t .i5 .given .1, c .decides4 .ensures)
+
+returns-12 : tie.Need-returns-12
+unfolding planOf
+returns-12 c = let t : tie.After-i6 = search in rw (t .i6 .given .1) (c .short8 .ensures)
+
+returns-13 : tie.Need-returns-13
+unfolding planOf
+returns-13 c = let t : tie.After-enum-told7 = search in rw (t .enum-told7 .given .1) (c .push4 .ensures)
+
+returns-14 : tie.Need-returns-14
+unfolding planOf
+returns-14 c = let t : tie.After-enum-told8 = search in rw (t .enum-told8 .given .1) (c .push5 .ensures)
+
+returns-15 : tie.Need-returns-15
+unfolding planOf
+returns-15 c = let t : tie.After-enum-told9 = search in rw (t .enum-told9 .given .1) (c .short9 .ensures)
+
+returns-16 : tie.Need-returns-16
+unfolding planOf
+returns-16 c = let t : tie.After-enum-told10 = search in rw (t .enum-told10 .given .1) (c .short10 .ensures)
+
+returns-17 : tie.Need-returns-17
+unfolding planOf
+returns-17 c = let t : tie.After-enum-told11 = search in rw (t .enum-told11 .given .1) (c .short11 .ensures)
+
+returns-18 : tie.Need-returns-18
+unfolding planOf
+returns-18 c = let t : tie.After-enum-told12 = search in rw (t .enum-told12 .given .1) (c .short12 .ensures)
+
+returns-19 : tie.Need-returns-19
+unfolding planOf
+returns-19 c = let t : tie.After-enum-told13 = search in rw (t .enum-told13 .given .1) (c .short13 .ensures)
+
+returns-20 : tie.Need-returns-20
+unfolding planOf
+returns-20 c = let t : tie.After-enum-told14 = search in rw (t .enum-told14 .given .1) (c .short14 .ensures)
+
+returns-21 : tie.Need-returns-21
+unfolding planOf
+returns-21 c = let t : tie.After-enum-told15 = search in rw (t .enum-told15 .given .1) (c .short15 .ensures)
+
+returns-22 : tie.Need-returns-22
+unfolding planOf
+returns-22 c = let t : tie.After-enum-told16 = search in rw (t .enum-told16 .given .1) (c .short16 .ensures)
+
+returns-23 : tie.Need-returns-23
+unfolding planOf
+returns-23 c = let t : tie.After-enum-told17 = search in rw (t .enum-told17 .given .1) (c .short17 .ensures)
+
+returns-24 : tie.Need-returns-24
+unfolding planOf
+returns-24 c = let t : tie.After-enum-told18 = search in rw (t .enum-told18 .given .1) (c .short18 .ensures)
+
+returns-25 : tie.Need-returns-25
+unfolding planOf
+returns-25 c = let t : tie.After-enum-told19 = search in rw (t .enum-told19 .given .1) (c .short19 .ensures)
+
+returns-26 : tie.Need-returns-26
+unfolding planOf
+returns-26 c = let t : tie.After-i7 = search in rw (t .i7 .given .1) (c .short20 .ensures)
+
+returns-27 : tie.Need-returns-27
+unfolding planOf
+returns-27 c = let t : tie.After-i8 = search in rw (t .i8 .given .1) (c .try-frame .ensures)
+
+returns-28 : tie.Need-returns-28
+unfolding planOf
+returns-28 c = let t : tie.After-enum-told20 = search in rw (t .enum-told20 .given .1) (c .done .ensures)
+
+returns-29 : tie.Need-returns-29
+unfolding planOf
+returns-29 c = let t : tie.After-enum-told21 = search in rw (t .enum-told21 .given .1) (c .short21 .ensures)
+
+returns-30 : tie.Need-returns-30
+unfolding planOf
+returns-30 c = let a : tie.After-input = search in let t : tie.After-i9 = search in rw (t .i9 .given .1) (rw (a .input .ensures) at (c .push6 .ensures))
 
 pub plan-of-spec : {M : Type 1} → statement M
-plan-of-spec = tie.close (tie.spec returns sub-if2 returns-2 operate-requires returns-3)
+plan-of-spec =
+    tie.close
+    (tie.spec
+    (λ c. search needs)
+    (λ c κs. search needs)
+    (λ c κs. search needs)
+    (λ c. search needs)
+    (λ c κs. search needs)
+    (λ c. search needs)
+    (λ c κs. search needs)
+    (λ c. search needs)
+    (λ c κs. search needs)
+    (λ c. search needs)
+    (λ c κs. search needs)
+    (λ c κs. search needs)
+    (λ c. search needs)
+    (λ c κs. search needs)
+    (λ c κs. search needs)
+    (λ c. search needs)
+    (λ c κs. search needs)
+    (λ c. search needs)
+    (λ c κs. search needs)
+    (λ c. search needs)
+    (λ c κs. search needs)
+    (λ c. search needs)
+    (λ c κs. search needs)
+    (λ c. search needs)
+    (λ c κs. search needs)
+    (λ c. search needs)
+    (λ c κs. search needs)
+    (λ c. search needs)
+    (λ c κs. search needs)
+    (λ c. search needs)
+    (λ c κs. search needs)
+    (λ c. search needs)
+    (λ c κs. search needs)
+    (λ c. search needs)
+    (λ c κs. search needs)
+    (λ c. search needs)
+    (λ c κs. search needs)
+    (λ c. search needs)
+    (λ c κs. search needs)
+    (λ c. search needs)
+    (λ c κs. search needs)
+    (λ c. search needs)
+    (λ c κs. search needs)
+    (λ c. search needs)
+    (λ c κs. search needs)
+    (λ c. search needs)
+    (λ c κs. search needs)
+    (λ c. search needs)
+    (λ c κs. search needs)
+    (λ c. search needs)
+    (λ c κs. search needs)
+    (λ c. search needs)
+    (λ c κs. search needs)
+    (λ c. search needs)
+    (λ c κs. search needs)
+    (λ c. search needs)
+    (λ c κs. search needs)
+    (λ c. search needs)
+    (λ c κs. search needs)
+    (λ c. search needs)
+    (λ c κs. search needs)
+    (λ c. search needs)
+    (λ c κs. search needs)
+    (λ c κs. search needs)
+    returns
+    returns-2
+    returns-3
+    returns-4
+    returns-5
+    returns-6
+    returns-7
+    returns-8
+    returns-9
+    returns-10
+    returns-11
+    returns-12
+    returns-13
+    returns-14
+    returns-15
+    returns-16
+    returns-17
+    returns-18
+    returns-19
+    returns-20
+    returns-21
+    returns-22
+    returns-23
+    returns-24
+    returns-25
+    returns-26
+    returns-27
+    returns-28
+    returns-29
+    returns-30)

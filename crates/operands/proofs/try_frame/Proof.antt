@@ -1,13 +1,19 @@
-use borrow.Author.Tests.{eq-eqb, ne-eqb, lt-ltb, le-ltb, lt-leb, le-leb}
+-- `operands::try_frame` meets its contract.
+use borrow.Author.Tests.{lt-ltb, le-ltb}
+use borrow.Author.Needs.{needs}
 use Rattle.operands.proofs.try_frame.Statement.{statement}
 use Rattle.operands.proofs.try_frame.Tie as tie
-use Rattle.operands.proofs.try_frame.Reads as reads
 
 returns : tie.Need-returns
-returns c = rw (lt-ltb _ _ (c .if1 .taken))
+returns c = let i : tie.Then1 = search in rw (lt-ltb _ _ (i .if1 .taken), c .decides .ensures)
 
 returns-2 : tie.Need-returns-2
-returns-2 c = rw (le-ltb _ _ (c .if1 .left))
+returns-2 c = let j : tie.Then2 = search in let i : tie.Else1 = search in rw (le-ltb _ _ (i .if1 .left), lt-ltb _ _ (j .if2 .taken), c .decides2 .ensures)
+
+returns-3 : tie.Need-returns-3
+returns-3 c = let j : tie.Else2 = search in let i : tie.Else1 = search in rw (le-ltb _ _ (i .if1 .left), le-ltb _ _ (j .if2 .left), c .decides3 .ensures)
 
 pub try-frame-spec : {M : Type 1} → statement M
-try-frame-spec = tie.close (tie.spec returns returns-2)
+try-frame-spec =
+    tie.close
+    (tie.spec (λ c κs. search needs) returns (λ c κs. search needs) returns-2 (λ c κs. search needs) returns-3)

@@ -1,8 +1,7 @@
+-- `machine::State::live` meets its contract.
 use borrow.Author.Needs.{needs}
 use Rattle.machine.proofs.State.live.Statement.{statement}
 use Rattle.machine.proofs.State.live.Tie as tie
-use Rattle.machine.proofs.State.live.Reads as reads
-use Rattle.machine.proofs.State.live.Lts as lts
 
 enum-told : tie.Need-enum-told
 enum-told c = search needs

@@ -1,0 +1,123 @@
+-- Labels and records: the code's checks and effects are the definition's. y and x are the two values on top.
+use mathlib.Core.Bool.{Bool, true, false, cond, _&&_}
+use mathlib.Core.Path.{_≡_, refl}
+use mathlib.Core.List.{List}
+use Prim.Native.Nat.{ℕ, _+_, _≤_}
+use native.Mathlib.Omega.{arith}
+use lib.Dec.{leb, ltb, eqb}
+use borrow.Author.Tests.{leb-true, ltb-true}
+use lib.ListN.{length}
+use Rattle.labels.specs.declared.Label.{Label}
+use Rattle.labels.specs.Order.{flows, join}
+use Rattle.model.specs.declared.Kind.{Kind}
+use Rattle.model.specs.declared.Datum.{Datum}
+use Rattle.model.specs.declared.Datum.the-variants.{Label as Labelled}
+use Rattle.model.specs.declared.Contents.{Contents}
+use Rattle.model.specs.declared.Contents.the-variants.{Value as Holds, Fault as Faulty}
+use Rattle.model.specs.declared.Record.{Record}
+use Rattle.model.specs.declared.Slot.{Slot}
+use Rattle.model.specs.declared.Slot.the-variants.{Empty, Full}
+use Rattle.model.specs.State.{Control, Account, Store, Runner, at, withLabel, withClearance}
+use Rattle.model.specs.Operands.{raises, lowers, labels, opens, makes, writes, blocks}
+use Rattle.model.specs.Effects.{Next, go, fail, checkTarget, act, labelSlot, openSlot, writeSlot, yield}
+use Rattle.operands.specs.Program.{program}
+use Rattle.operands.specs.Plans.{decided, faulty}
+use Rattle.operands.specs.declared.Effect.the-variants.{Lower}
+use Rattle.operands.specs.declared.Effect.{Effect}
+use Rattle.operands.specs.declared.Decision.{Decision}
+use Rattle.effects.specs.Decisions.{lent, targetOf, passing, raiseOf, lowerOf, makeOf, enterOf, yieldOf, openOf, labelledOf, writeOf}
+use Rattle.effects.proofs.Taking.{less, Bounded, Fits, Good, fit, good-fault, good-test}
+
+module _ (code ws rs : List ℕ) (R : Runner) (c : Control) (a : Account) (σ : Store) (b : Bounded c a) where
+  abbrev Does : Datum → Datum → Decision → Next → Type 0
+  Does y x d n = Good code ws rs R c a σ y x d n
+
+  -- 23 and 24
+  pass-target : (y x : Datum) (k : ℕ) (l : Label) (e : Effect) (n : Next) → Does y x (decided k e) n
+      → Does y x (decided k (passing (targetOf (a .label) (a .clearance) l) e)) (checkTarget (program code ws rs) l c a σ n)
+  unfolding targetOf program
+  pass-target y x k l e n g = test (flows (a .label) l) (flows l (a .clearance)) where
+    test : (p q : Bool) → Does y x (decided k (passing (cond p (cond q 0 24) 23) e)) (cond p (cond q n (fail 24 0 c a σ)) (fail 23 0 c a σ))
+    test true true = g
+    test true false = good-fault code ws rs R c a σ y x k 24
+    test false q = good-fault code ws rs R c a σ y x k 23
+
+  -- ── on a label ──
+
+  module _ (x : Datum) (l : Label) where
+    pub raise-good : 1 ≤ length (c .stack) → Does (Labelled l) x (decided 1 (raiseOf (a .label) (a .clearance) l)) (act (program code ws rs) R c (less 1 c) a σ (raises l))
+    unfolding act program
+    raise-good h =
+        good-test code ws rs R c a σ (Labelled l) x 1 (flows (join (a .label) l) (a .clearance))
+        (λ _. record { fits = fit c a 1 0 b h (omega (arith, b .stack)); does = refl })
+        (λ _. good-fault code ws rs R c a σ (Labelled l) x 1 24)
+
+    pub lower-good : 1 ≤ length (c .stack) → Does (Labelled l) x (decided 1 (lowerOf (a .label) (a .clearance) l)) (act (program code ws rs) R c (less 1 c) a σ (lowers l))
+    unfolding act program
+    lower-good h = test (flows (a .label) l) (flows l (a .clearance)) where
+      test : (p q : Bool) → Does (Labelled l) x (decided 1 (cond p (cond q Lower (faulty 25)) (faulty 25))) (cond (p && q) (go (less 1 c) (withClearance l a) σ) (fail 25 0 c a σ))
+      test true true = record { fits = fit c a 1 0 b h (omega (arith, b .stack)); does = refl }
+      test true false = good-fault code ws rs R c a σ (Labelled l) x 1 25
+      test false q = good-fault code ws rs R c a σ (Labelled l) x 1 25
+
+    pub make-good : (h : Kind) → 2 ≤ length (c .stack) → Does (Labelled l) x (decided 2 (makeOf (lent a) h l)) (act (program code ws rs) R c (less 2 c) a σ (makes h l x))
+    unfolding act program
+    make-good h q =
+        pass-target (Labelled l) x 2 l _ _
+        (good-test code ws rs R c a σ (Labelled l) x 2 (ltb (a .next) (a .limit))
+        (λ e. let f : Fits c a 2 1 0 0 0 = fit c a 2 1 b q (omega (arith, b .stack)) in record { fits = record { low = f .low; room = f .room; free = f .free; held = f .held; places = omega (arith, ltb-true (a .next) (a .limit) e) }; does = refl })
+        (λ _. good-fault code ws rs R c a σ (Labelled l) x 2 26))
+
+    pub enter-good : (t n j : ℕ) → 1 ≤ length (c .stack) → Does (Labelled l) x (decided 1 (enterOf (lent a) l t n j)) (act (program code ws rs) R c (less 1 c) a σ (blocks l t n j))
+    unfolding act program targetOf
+    enter-good t n j h =
+        test (flows (a .label) l) (flows l (a .clearance)) (ltb (a .depth) 8) (leb n (a .steps)) (leb (a .next + 1 + j) (a .limit))
+        (λ u v w. record { fits = record { fits = fit c a 1 1 b h (omega (arith, b .stack)); deep = ltb-true (a .depth) 8 u; time = leb-true n (a .steps) v; room = leb-true (a .next + 1 + j) (a .limit) w }; does = refl })
+        refl refl refl
+      where
+        bad : (f : ℕ) → Does (Labelled l) x (decided 1 (faulty f)) (fail f 0 c a σ)
+        bad f = good-fault code ws rs R c a σ (Labelled l) x 1 f
+
+        test : (p q u v w : Bool) {e : Effect} {m : Next} → (ltb (a .depth) 8 ≡ true → leb n (a .steps) ≡ true → leb (a .next + 1 + j) (a .limit) ≡ true → Does (Labelled l) x (decided 1 e) m)
+            → ltb (a .depth) 8 ≡ u → leb n (a .steps) ≡ v → leb (a .next + 1 + j) (a .limit) ≡ w
+            → Does (Labelled l) x
+            (decided 1 (passing (cond (eqb (cond p (cond q 0 24) 23) 0) (cond u (cond v (cond w 0 26) 27) 28) (cond p (cond q 0 24) 23)) e))
+            (cond p (cond q (cond u (cond v (cond w m (fail 26 0 c a σ)) (fail 27 0 c a σ)) (fail 28 0 c a σ)) (fail 24 0 c a σ)) (fail 23 0 c a σ))
+        test true true true true true g d s r = g d s r
+        test true true true true false g d s r = bad 26
+        test true true true false w g d s r = bad 27
+        test true true false v w g d s r = bad 28
+        test true false u v w g d s r = bad 24
+        test false q u v w g d s r = bad 23
+
+  -- ── on a handle ──
+
+  module _ (y x : Datum) (p : ℕ) where
+    pub open-good : 1 ≤ length (c .stack) → Does y x (decided 1 (openOf (a .label) (a .clearance) p (at σ p))) (act (program code ws rs) R c (less 1 c) a σ (opens p))
+    unfolding act openSlot yield program
+    open-good h = test (at σ p) refl where
+      inner : (r : Record) (z : Contents) → at σ p ≡ Full r → r .contents ≡ z
+          → Does y x (decided 1 (yieldOf p z)) (yield c (less 1 c) (withLabel (join (a .label) (r .label)) a) σ z)
+      inner r (Holds d) e f = record { fits = fit c a 1 1 b h (omega (arith, b .stack)); does = rw (e, f) }
+      inner r (Faulty q n) e f = record { fits = 0; does = rw e }
+
+      test : (s : Slot) → at σ p ≡ s → Does y x (decided 1 (openOf (a .label) (a .clearance) p s)) (openSlot (program code ws rs) c (less 1 c) a σ s)
+      test Empty e = good-fault code ws rs R c a σ y x 1 33
+      test (Full r) e =
+          good-test code ws rs R c a σ y x 1 (flows (join (a .label) (r .label)) (a .clearance))
+          (λ _. inner r (r .contents) e refl)
+          (λ _. good-fault code ws rs R c a σ y x 1 24)
+
+    pub label-good : 1 ≤ length (c .stack) → Does y x (decided 1 (labelledOf p (at σ p))) (act (program code ws rs) R c (less 1 c) a σ (labels p))
+    unfolding act labelSlot
+    label-good h = test (at σ p) refl where
+      test : (s : Slot) → at σ p ≡ s → Does y x (decided 1 (labelledOf p s)) (labelSlot c (less 1 c) a σ s)
+      test Empty e = good-fault code ws rs R c a σ y x 1 33
+      test (Full r) e = record { fits = fit c a 1 1 b h (omega (arith, b .stack)); does = rw e }
+
+    pub write-good : 2 ≤ length (c .stack) → Does y x (decided 2 (writeOf (a .label) (a .clearance) p (at σ p))) (act (program code ws rs) R c (less 2 c) a σ (writes p x))
+    unfolding act writeSlot
+    write-good h = test (at σ p) refl where
+      test : (s : Slot) → at σ p ≡ s → Does y x (decided 2 (writeOf (a .label) (a .clearance) p s)) (writeSlot (program code ws rs) c (less 2 c) a σ p x s)
+      test Empty e = good-fault code ws rs R c a σ y x 2 33
+      test (Full r) e = pass-target y x 2 (r .label) _ _ (record { fits = fit c a 2 0 b h (omega (arith, b .stack)); does = rw e })

@@ -1,0 +1,28 @@
+-- `effects::on_labels` meets its contract.
+use borrow.Author.Needs.{needs}
+use Rattle.effects.proofs.on_labels.Statement.{statement}
+use Rattle.effects.proofs.on_labels.Tie as tie
+
+returns : tie.Need-returns
+returns c = let a : tie.After-two-labels = search in let t : tie.After-t = search in rw (t .t .given .1) (rw (a .two-labels .ensures) at (c .decides .ensures))
+
+returns-2 : tie.Need-returns-2
+returns-2 c = let t : tie.After-t2 = search in rw (t .t2 .given .1) (c .on-label .ensures)
+
+returns-3 : tie.Need-returns-3
+returns-3 c = let t : tie.After-t3 = search in rw (t .t3 .given .1) (c .on-handle .ensures)
+
+pub on-labels-spec : {M : Type 1} → statement M
+on-labels-spec =
+    tie.close
+    (tie.spec
+    (λ c. search needs)
+    (λ c κs. search needs)
+    (λ c κs. search needs)
+    (λ c. search needs)
+    (λ c κs. search needs)
+    (λ c. search needs)
+    (λ c κs. search needs)
+    returns
+    returns-2
+    returns-3)

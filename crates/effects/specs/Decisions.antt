@@ -1,0 +1,162 @@
+-- What the code makes of labels and records: a decision, and where a label lies. These follow the code; `decision-performs`
+-- (proofs/Bridge) ties them to the machine's definition.
+use mathlib.Core.Bool.{Bool, true, false, cond}
+use mathlib.Core.List.{List}
+use Prim.Native.Nat.{ℕ, _+_}
+use lib.Dec.{leb, ltb, eqb}
+use Rattle.labels.specs.declared.Label.{Label}
+use Rattle.labels.specs.Order.{flows, join, meet}
+use Rattle.model.specs.State.{Account as Owned, Store, at}
+use Rattle.model.specs.Effects.{contentsOf}
+use Rattle.model.specs.Words.{labelIn}
+use Rattle.model.specs.declared.Kind.{Kind}
+use Rattle.model.specs.declared.Kind.the-variants.{Sealed, Reference}
+use Rattle.model.specs.declared.Datum.{Datum}
+use Rattle.model.specs.declared.Datum.the-variants.{Number, Label as Labelled, Handle}
+use Rattle.model.specs.declared.Contents.{Contents}
+use Rattle.model.specs.declared.Contents.the-variants.{Value as Holds, Fault as Faulty}
+use Rattle.model.specs.declared.Record.{Record}
+use Rattle.model.specs.declared.Slot.{Slot}
+use Rattle.model.specs.declared.Slot.the-variants.{Empty, Full}
+use Rattle.model.specs.declared.Ending.{Ending}
+use Rattle.store.specs.Records.{labelAt}
+use Rattle.operands.specs.declared.By.{By}
+use Rattle.operands.specs.declared.By.the-variants.{None as NotRaised, Record as ByRecord}
+use Rattle.operands.specs.declared.Origin.{Origin}
+use Rattle.operands.specs.declared.Origin.the-variants.{File, Current, Clearance, Join as JoinOf, Meet as MeetOf, Record as OfRecord}
+use Rattle.operands.specs.declared.Effect.{Effect}
+use Rattle.operands.specs.declared.Effect.the-variants.{Fault, Label as GivesLabel, Raise, Lower, Make, Write, Open, Block}
+use Rattle.operands.specs.declared.Decision.{Decision}
+use Rattle.operands.specs.declared.OnLabel.{OnLabel}
+use Rattle.operands.specs.declared.OnLabel.the-variants.{Raise as Raises, Lower as Lowers, Make as Makes, Block as Blocks}
+use Rattle.operands.specs.declared.OnHandle.{OnHandle}
+use Rattle.operands.specs.declared.OnHandle.the-variants.{Open as Opens, Label as LabelOf, Write as Writes}
+use Rattle.operands.specs.declared.LabelTask.{LabelTask}
+use Rattle.operands.specs.declared.LabelTask.the-variants.{Pair as OnPair, Label as ForLabel, Handle as ForHandle}
+use Rattle.operands.specs.declared.Plan.{Plan}
+use Rattle.operands.specs.declared.Plan.the-variants.{Do, Numbers, Labels}
+use Rattle.operands.specs.Plans.{decided, faulty, onNumbers, labelOf, labelsOf}
+use Rattle.effects.specs.declared.Account.{Account}
+
+-- the definition's account as the code has it
+abbrev pub lent : Owned → Account
+lent a = record { label = a .label; clearance = a .clearance; steps = a .steps; next = a .next; limit = a .limit; depth = a .depth }
+
+-- ── the checks ──
+
+-- 23 and 24, as the code of the fault; 0 is none
+unfoldable pub targetOf : Label → Label → Label → ℕ
+targetOf label clearance l = cond (flows label l) (cond (flows l clearance) 0 24) 23
+
+abbrev pub risesOf : Label → Label → Label → Bool
+risesOf label clearance l = flows (join label l) clearance
+
+-- what follows a fault's code: 0 lets it pass
+abbrev pub passing : ℕ → Effect → Effect
+passing code e = cond (eqb code 0) e (faulty code)
+
+-- ── on a label ──
+
+abbrev pub raiseOf : Label → Label → Label → Effect
+raiseOf label clearance l = cond (risesOf label clearance l) Raise (faulty 24)
+
+abbrev pub lowerOf : Label → Label → Label → Effect
+lowerOf label clearance l = cond (flows label l) (cond (flows l clearance) Lower (faulty 25)) (faulty 25)
+
+abbrev pub makeOf : Account → Kind → Label → Effect
+makeOf a h l = passing (targetOf (a .label) (a .clearance) l) (cond (ltb (a .next) (a .limit)) (Make h) (faulty 26))
+
+-- BLOCK's checks, as the code of the fault; 0 is none
+abbrev pub roomOf : Account → Label → ℕ → ℕ → ℕ
+roomOf a b n k =
+    cond (eqb (targetOf (a .label) (a .clearance) b) 0)
+    (cond (ltb (a .depth) 8)
+    (cond (leb n (a .steps)) (cond (leb (a .next + 1 + k) (a .limit)) 0 26) 27)
+    28)
+    (targetOf (a .label) (a .clearance) b)
+
+abbrev pub enterOf : Account → Label → ℕ → ℕ → ℕ → Effect
+enterOf a b t n k = passing (roomOf a b n k) (Block t n k)
+
+abbrev pub withLabel : OnLabel → Label → Account → Decision
+withLabel Raises l a = decided 1 (raiseOf (a .label) (a .clearance) l)
+withLabel Lowers l a = decided 1 (lowerOf (a .label) (a .clearance) l)
+withLabel (Makes h) l a = decided 2 (makeOf a h l)
+withLabel (Blocks t n k) l a = decided 1 (enterOf a l t n k)
+
+abbrev pub onLabel : OnLabel → Datum → Account → Decision
+onLabel f (Number n) a = decided 1 (faulty 22)
+onLabel f (Labelled l) a = withLabel f l a
+onLabel f (Handle h p) a = decided 1 (faulty 22)
+
+-- ── on a handle, p its place ──
+
+abbrev pub isKind : Kind → Kind → Bool
+isKind Sealed Sealed = true
+isKind Sealed Reference = false
+isKind Reference Sealed = false
+isKind Reference Reference = true
+
+abbrev pub yieldOf : ℕ → Contents → Effect
+yieldOf p (Holds d) = Open p
+yieldOf p (Faulty code n) = Fault (ByRecord p) code n
+
+abbrev pub openedOf : Label → Label → ℕ → Record → Effect
+openedOf label clearance p r = cond (risesOf label clearance (r .label)) (yieldOf p (r .contents)) (faulty 24)
+
+abbrev pub openOf : Label → Label → ℕ → Slot → Effect
+openOf label clearance p Empty = faulty 33
+openOf label clearance p (Full r) = openedOf label clearance p r
+
+abbrev pub labelledOf : ℕ → Slot → Effect
+labelledOf p Empty = faulty 33
+labelledOf p (Full r) = GivesLabel (OfRecord p)
+
+abbrev pub rewriteOf : Label → Label → ℕ → Record → Effect
+rewriteOf label clearance p r = passing (targetOf label clearance (r .label)) (Write p)
+
+abbrev pub writeOf : Label → Label → ℕ → Slot → Effect
+writeOf label clearance p Empty = faulty 33
+writeOf label clearance p (Full r) = rewriteOf label clearance p r
+
+abbrev pub withHandle : OnHandle → Kind → ℕ → Account → Store → Decision
+withHandle (Opens k) h p a σ = decided 1 (cond (isKind k h) (openOf (a .label) (a .clearance) p (at σ p)) (faulty 22))
+withHandle LabelOf h p a σ = decided 1 (labelledOf p (at σ p))
+withHandle Writes h p a σ = decided 2 (cond (isKind Reference h) (writeOf (a .label) (a .clearance) p (at σ p)) (faulty 22))
+
+abbrev pub onHandle : OnHandle → Datum → Account → Store → Decision
+onHandle f (Number n) a σ = decided 1 (faulty 22)
+onHandle f (Labelled l) a σ = decided 1 (faulty 22)
+onHandle f (Handle h p) a σ = withHandle f h p a σ
+
+-- y and x being the top operand and the one below
+abbrev pub onLabels : LabelTask → Datum → Datum → Account → Store → Decision
+onLabels (OnPair f) y x a σ = decided 2 (labelsOf f y x)
+onLabels (ForLabel f) y x a σ = onLabel f y a
+onLabels (ForHandle f) y x a σ = onHandle f y a σ
+
+-- what an instruction comes to, once its plan is made
+abbrev pub decisionOf : Plan → Datum → Datum → Account → Store → Decision
+decisionOf (Do d) y x a σ = d
+decisionOf (Numbers t) y x a σ = onNumbers t y x
+decisionOf (Labels t) y x a σ = onLabels t y x a σ
+
+-- ── where a label lies ──
+
+abbrev pub labelFrom : Origin → Datum → Datum → Label → Label → List ℕ → Store → Label
+labelFrom (File i) y x label clearance ws σ = labelIn ws i
+labelFrom Current y x label clearance ws σ = label
+labelFrom Clearance y x label clearance ws σ = clearance
+labelFrom JoinOf y x label clearance ws σ = join (labelOf x) (labelOf y)
+labelFrom MeetOf y x label clearance ws σ = meet (labelOf x) (labelOf y)
+labelFrom (OfRecord p) y x label clearance ws σ = labelAt (at σ p)
+
+-- the label that a fault leaves
+abbrev pub raisedBy : Label → By → Store → Label
+raisedBy label NotRaised σ = label
+raisedBy label (ByRecord p) σ = join label (labelAt (at σ p))
+
+-- ── a block's outcome ──
+
+abbrev pub outcomeOf : Label → Ending → Label → Contents
+outcomeOf label e b = cond (flows label b) (contentsOf e) (Faulty 31 0)

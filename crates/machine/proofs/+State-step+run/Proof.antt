@@ -1,0 +1,247 @@
+-- `State::step` and `run` meet their contracts. A run steps a new state through all its steps; a step runs the body of a
+-- BLOCK with fewer. Assumes nothing.
+pub mod Places
+pub mod Loop
+pub mod Deciding
+pub mod Stepping
+use Prim.Native.Nat.{ℕ}
+use native.Mathlib.Omega.{arith}
+use denote.Ref.{now}
+use borrow.Author.Needs.{needs}
+use Rattle.machine.proofs.Turns.{ok-fresh, finishes}
+use Rattle.machine.proofs.State.step.Reads as step
+use Rattle.machine.proofs.+State-step+run.Lts-State-step as step-lts
+use Rattle.machine.proofs.run.Reads as run
+use Rattle.machine.proofs.+State-step+run.Lts-run as run-lts
+use Rattle.machine.proofs.ending.Reads as ending-reads
+use Rattle.values.proofs.same_label.Reads as same-label-reads
+use Rattle.machine.proofs.start.Reads as start-reads
+use Rattle.machine.proofs.+State-step+run.{statement}
+use Rattle.machine.proofs.+State-step+run.Tie.{close}
+use Rattle.machine.proofs.+State-step+run.Proof.Places.{Inside-loop, Stored, μ-step, μ-run, step-at, step-below, run-at, Inv-loop, μ-loop, calls, Start, Asked, Planned, Concluded}
+use Rattle.machine.proofs.+State-step+run.Proof.Loop.{code, as-long, ok-paid, top, falls-todo, ok, in-first, in-second}
+use Rattle.machine.proofs.+State-step+run.Proof.Deciding.{room-drops, room-jumps, room-numbers, room-handles, room-labels, room-gets, room-sets, room-tries, room-leaves, room-raises, room-lowers, room-makes, room-writes, room-opens, clear, room-blocks, under, block-of, planned-of, paid-places}
+use Rattle.machine.proofs.+State-step+run.Proof.Stepping.{loop-holds, returns, charge-requires, decode-requires, on-labels-requires, loop-again, caught-requires, loop-again-2, loop-again-3, loop-again-4, element-set-from-self, loop-again-5, element-set-from-self-2, loop-again-6, label-from-requires, element-set-from-self-3, loop-again-7, element-copy-out-v-4, element-set-from-self-4, loop-again-8, element-set-from-v, loop-again-9, loop-again-10, element-set-from-self-5, loop-again-11, loop-again-12, loop-again-13, loop-again-14, loop-again-15, element-set-from-self-6, loop-again-16, loop-again-17, element-set-from-self-7, loop-again-18, inside-requires, run-requires, conclude-requires, element-set-from-self-8, loop-again-19, returns-2}
+
+-- ── run ──
+
+module _ (t : ℕ) where
+  abbrev run-calls : run-lts.Claims
+  run-calls = (start-reads.Asked, start-reads.Learnt, step-below t, step.Post, ending-reads.Asked, ending-reads.Learnt, same-label-reads.Asked, same-label-reads.Learnt)
+
+  abbrev Begins : Type 0
+  Begins = run-lts.Start run-calls (run-at t) run.Post
+
+  abbrev Starts : Type 0
+  Starts = run-lts.After-start run-calls (run-at t) run.Post
+
+  abbrev Stepped : Type 0
+  Stepped = run-lts.After-step run-calls (run-at t) run.Post
+
+  run-step-requires : run-lts.Need-step-requires run-calls (run-at t) run.Post
+  run-step-requires c κs =
+      let s : Starts = search in
+      let b : Begins = search in
+      let p = b .pre .1 in
+      rw (s .start .ensures) (omega (arith, b .pre .0), (ok-fresh (b .args .pc) (b .args .locals) (b .args .a) (p .0) (p .1) (p .2), p .3))
+
+  run-returns : run-lts.Need-returns run-calls (run-at t) run.Post
+  run-returns c =
+      let k : run-lts.After-same-label2 run-calls (run-at t) run.Post = search in
+      let l : run-lts.After-same-label run-calls (run-at t) run.Post = search in
+      let e : run-lts.After-ending run-calls (run-at t) run.Post = search in
+      let r : Stepped = search in
+      let s : Starts = search in
+      let b : Begins = search in
+      rw (l .same-label .ensures, k .same-label2 .ensures)
+      (finishes (now (b .args .code)) (now (b .args .labels)) (now (b .args .records)) (b .args .pc) (b .args .locals) (b .args .a) (r .step .result) _ _ _ (e .ending .ensures) (rw (s .start .ensures) at (r .step .ensures)))
+
+pub +State·step+run-spec : {M : Type 1} → statement M
++State·step+run-spec =
+    close μ-step μ-run
+    (λ t. step-lts.spec (calls t) (step-at t) step.Post Inv-loop μ-loop
+    (loop-holds t)
+    (λ c κs. search needs)
+    (λ c. as-long t (search))
+    (returns t)
+    (λ c. let i : Inside-loop t = search in omega (arith, i .loop-test .taken))
+    (charge-requires t)
+    (λ c κs. search needs)
+    (λ c. omega (arith, ok-paid t (search) .stack .index))
+    (λ c κs. search needs)
+    (λ c. omega (arith, ok-paid t (search) .stack .index))
+    (λ c. omega (arith, ok-paid t (search) .frames .index))
+    (decode-requires t)
+    (λ c κs. search needs)
+    (λ c. search needs)
+    (λ c. search needs)
+    (λ c. let p : Planned t = search in omega (arith, in-first t p, ok t p .stack .size))
+    (λ c. let p : Planned t = search in omega (arith, in-first t p, ok t p .stack .size))
+    (λ c. let p : Planned t = search in omega (arith, in-second t p, ok t p .stack .size))
+    (λ c. let p : Planned t = search in omega (arith, in-second t p, ok t p .stack .size))
+    (λ c κs. search needs)
+    (λ c. search needs)
+    (λ c. let p : Planned t = search in omega (arith, in-first t p, ok t p .stack .size))
+    (λ c. let p : Planned t = search in omega (arith, in-first t p, ok t p .stack .size))
+    (λ c. let p : Planned t = search in omega (arith, in-second t p, ok t p .stack .size))
+    (λ c. let p : Planned t = search in omega (arith, in-second t p, ok t p .stack .size))
+    (λ c κs. search needs)
+    (on-labels-requires t)
+    (λ c. search needs)
+    (λ c κs. let p : Planned t = search in top t p .loop .inv .1)
+    (λ c κs. search needs)
+    (λ c. falls-todo t (search))
+    (loop-again t)
+    (λ c. let p : Planned t = search in omega (arith, under t (search), ok t p .frames .size))
+    (λ c. let p : Planned t = search in omega (arith, under t (search), ok t p .frames .size))
+    (caught-requires t)
+    (λ c. falls-todo t (search))
+    (loop-again-2 t)
+    (λ c. search needs)
+    (λ c κs. omega (arith, room-drops t (search) .low))
+    (λ c. falls-todo t (search))
+    (loop-again-3 t)
+    (λ c. search needs)
+    (λ c. omega (arith, room-jumps t (search) .low))
+    (λ c. falls-todo t (search))
+    (loop-again-4 t)
+    (λ c. search needs)
+    (λ c. omega (arith, room-numbers t (search) .low))
+    (λ c. omega (arith, room-numbers t (search) .room))
+    (λ c κs. search needs)
+    (λ c. let p : Planned t = search in let r = room-numbers t (search) in omega (arith, r .low, r .room, ok t p .stack .size))
+    (element-set-from-self t)
+    (λ c. falls-todo t (search))
+    (loop-again-5 t)
+    (λ c. search needs)
+    (λ c. omega (arith, room-handles t (search) .low))
+    (λ c. omega (arith, room-handles t (search) .room))
+    (λ c. let p : Planned t = search in let r = room-handles t (search) in omega (arith, r .low, r .room, ok t p .stack .size))
+    (element-set-from-self-2 t)
+    (λ c. falls-todo t (search))
+    (loop-again-6 t)
+    (λ c. search needs)
+    (λ c. let p : Planned t = search in omega (arith, in-first t p, ok t p .stack .size))
+    (λ c. let p : Planned t = search in omega (arith, in-first t p, ok t p .stack .size))
+    (λ c. let p : Planned t = search in omega (arith, in-second t p, ok t p .stack .size))
+    (λ c. let p : Planned t = search in omega (arith, in-second t p, ok t p .stack .size))
+    (label-from-requires t)
+    (λ c. omega (arith, room-labels t (search) .low))
+    (λ c. omega (arith, room-labels t (search) .room))
+    (λ c. let p : Planned t = search in let r = room-labels t (search) in omega (arith, r .low, r .room, ok t p .stack .size))
+    (element-set-from-self-3 t)
+    (λ c. falls-todo t (search))
+    (loop-again-7 t)
+    (λ c. search needs)
+    (λ c κs. search needs)
+    (λ c. let p : Planned t = search in omega (arith, ok t p .locals, c .least3 .ensures))
+    (element-copy-out-v-4 t)
+    (λ c κs. search needs)
+    (λ c. omega (arith, room-gets t (search) .low))
+    (λ c. omega (arith, room-gets t (search) .room))
+    (λ c. let p : Planned t = search in let r = room-gets t (search) in omega (arith, r .low, r .room, ok t p .stack .size))
+    (element-set-from-self-4 t)
+    (λ c. falls-todo t (search))
+    (loop-again-8 t)
+    (λ c. search needs)
+    (λ c. omega (arith, room-sets t (search) .low))
+    (λ c. let p : Planned t = search in omega (arith, in-first t p, ok t p .stack .size))
+    (λ c. let p : Planned t = search in omega (arith, in-first t p, ok t p .stack .size))
+    (λ c. let p : Planned t = search in let i : Stored t = search in omega (arith, ok t p .locals, i .if3 .taken))
+    (element-set-from-v t)
+    (λ c. falls-todo t (search))
+    (loop-again-9 t)
+    (λ c. falls-todo t (search))
+    (loop-again-10 t)
+    (λ c. search needs)
+    (λ c. omega (arith, room-tries t (search) .low))
+    (λ c. omega (arith, room-tries t (search) .free))
+    (λ c. omega (arith, room-tries t (search) .low))
+    (λ c. let p : Planned t = search in let r = room-tries t (search) in omega (arith, r .free, ok t p .frames .index, ok t p .frames .size))
+    (element-set-from-self-5 t)
+    (λ c. falls-todo t (search))
+    (loop-again-11 t)
+    (λ c. search needs)
+    (λ c. let p : Planned t = search in omega (arith, ok t p .frames .index))
+    (λ c. omega (arith, room-leaves t (search) .low))
+    (λ c. falls-todo t (search))
+    (loop-again-12 t)
+    (λ c. search needs)
+    (λ c. let p : Planned t = search in omega (arith, in-first t p, ok t p .stack .size))
+    (λ c. let p : Planned t = search in omega (arith, in-first t p, ok t p .stack .size))
+    (λ c κs. search needs)
+    (λ c κs. search needs)
+    (λ c. falls-todo t (search))
+    (loop-again-13 t)
+    (λ c. search needs)
+    (λ c. let p : Planned t = search in omega (arith, in-first t p, ok t p .stack .size))
+    (λ c. let p : Planned t = search in omega (arith, in-first t p, ok t p .stack .size))
+    (λ c κs. search needs)
+    (λ c κs. search needs)
+    (λ c. omega (arith, room-raises t (search) .low))
+    (λ c. falls-todo t (search))
+    (loop-again-14 t)
+    (λ c. search needs)
+    (λ c. let p : Planned t = search in omega (arith, in-first t p, ok t p .stack .size))
+    (λ c. let p : Planned t = search in omega (arith, in-first t p, ok t p .stack .size))
+    (λ c κs. search needs)
+    (λ c. omega (arith, room-lowers t (search) .low))
+    (λ c. falls-todo t (search))
+    (loop-again-15 t)
+    (λ c. search needs)
+    (λ c. let p : Planned t = search in omega (arith, in-first t p, ok t p .stack .size))
+    (λ c. let p : Planned t = search in omega (arith, in-first t p, ok t p .stack .size))
+    (λ c. let p : Planned t = search in omega (arith, in-second t p, ok t p .stack .size))
+    (λ c. let p : Planned t = search in omega (arith, in-second t p, ok t p .stack .size))
+    (λ c κs. search needs)
+    (λ c κs. let p : Planned t = search in top t p .loop .inv .1)
+    (λ c. omega (arith, room-makes t (search) .low))
+    (λ c. omega (arith, room-makes t (search) .room))
+    (λ c. let p : Planned t = search in let r = room-makes t (search) in omega (arith, r .low, r .room, ok t p .stack .size))
+    (element-set-from-self-6 t)
+    (λ c. let p : Planned t = search in omega (arith, room-makes t (search) .places, ok t p .places .most))
+    (λ c. falls-todo t (search))
+    (loop-again-16 t)
+    (λ c. search needs)
+    (λ c. let p : Planned t = search in omega (arith, in-second t p, ok t p .stack .size))
+    (λ c. let p : Planned t = search in omega (arith, in-second t p, ok t p .stack .size))
+    (λ c κs. let p : Planned t = search in top t p .loop .inv .1)
+    (λ c. omega (arith, room-writes t (search) .low))
+    (λ c. falls-todo t (search))
+    (loop-again-17 t)
+    (λ c. search needs)
+    (λ c κs. let p : Planned t = search in top t p .loop .inv .1)
+    (λ c κs. let p : Planned t = search in top t p .loop .inv .1)
+    (λ c κs. search needs)
+    (λ c. omega (arith, room-opens t (search) .low))
+    (λ c. omega (arith, room-opens t (search) .room))
+    (λ c. let p : Planned t = search in let r = room-opens t (search) in omega (arith, r .low, r .room, ok t p .stack .size))
+    (element-set-from-self-7 t)
+    (λ c. falls-todo t (search))
+    (loop-again-18 t)
+    (λ c. search needs)
+    (λ c. let p : Planned t = search in omega (arith, in-first t p, ok t p .stack .size))
+    (λ c. let p : Planned t = search in omega (arith, in-first t p, ok t p .stack .size))
+    (λ c κs. search needs)
+    (inside-requires t)
+    (run-requires t)
+    (conclude-requires t)
+    (λ c κs. omega (arith, clear t (block-of t (search)) .time))
+    (λ c. omega (arith, paid-places t (search)))
+    (λ c. omega (arith, paid-places t (search)))
+    (λ c. omega (arith, room-blocks t (block-of t (search)) .low))
+    (λ c. omega (arith, room-blocks t (block-of t (search)) .room))
+    (λ c. let s : Concluded t = search in let r = room-blocks t (block-of t s) in omega (arith, r .low, r .room, ok t (planned-of t s) .stack .size))
+    (element-set-from-self-8 t)
+    (λ c. falls-todo t (planned-of t (search)))
+    (loop-again-19 t)
+    (λ c. as-long t (search))
+    (returns-2 t))
+    (λ t. run-lts.spec (run-calls t) (run-at t) run.Post
+    (λ c κs. search needs)
+    (run-step-requires t)
+    (λ c κs. search needs)
+    (λ c κs. search needs)
+    (λ c κs. search needs)
+    (λ c. search needs)
+    (run-returns t))

@@ -1,0 +1,6 @@
+-- Stack: a stack that grows downwards. Methods: the run state's methods. Applying: each effect on the state. Turns:
+-- instructions one after the other, and a run.
+pub mod Stack
+pub mod Methods
+pub mod Applying
+pub mod Turns

@@ -1,0 +1,36 @@
+-- `operands::numbers` meets its contract.
+use borrow.Author.Needs.{needs}
+use Rattle.operands.proofs.numbers.Statement.{statement}
+use Rattle.operands.proofs.numbers.Tie as tie
+
+returns : tie.Need-returns
+returns c = let x : tie.After-x = search in let y : tie.After-y = search in rw (y .y .given .1, x .x .given .1) (c .computed .ensures)
+
+returns-2 : tie.Need-returns-2
+returns-2 c = let y : tie.After-y = search in rw (y .y .given .1, c .enum-told .given .1)
+
+returns-3 : tie.Need-returns-3
+returns-3 c = let y : tie.After-y = search in rw (y .y .given .1, c .enum-told2 .given .1)
+
+returns-4 : tie.Need-returns-4
+returns-4 c = rw (c .enum-told3 .given .1)
+
+returns-5 : tie.Need-returns-5
+returns-5 c = rw (c .enum-told4 .given .1)
+
+pub numbers-spec : {M : Type 1} → statement M
+numbers-spec =
+    tie.close
+    (tie.spec
+    (λ c. search needs)
+    (λ c. search needs)
+    (λ c κs. search needs)
+    (λ c. search needs)
+    (λ c. search needs)
+    (λ c. search needs)
+    (λ c. search needs)
+    returns
+    returns-2
+    returns-3
+    returns-4
+    returns-5)

@@ -1,0 +1,26 @@
+-- `operands::of_pair` meets its contract.
+use borrow.Author.Needs.{needs}
+use Rattle.operands.proofs.of_pair.Statement.{statement}
+use Rattle.operands.proofs.of_pair.Tie as tie
+
+returns : tie.Need-returns
+returns c = let a : tie.After-flows = search in let t : tie.After-enum-told = search in rw (t .enum-told .given .1) (rw (a .flows .ensures) at (c .bit .ensures))
+
+returns-2 : tie.Need-returns-2
+returns-2 c = rw (c .enum-told2 .given .1)
+
+returns-3 : tie.Need-returns-3
+returns-3 c = rw (c .enum-told3 .given .1)
+
+pub of-pair-spec : {M : Type 1} → statement M
+of-pair-spec =
+    tie.close
+    (tie.spec
+    (λ c. search needs)
+    (λ c κs. search needs)
+    (λ c κs. search needs)
+    (λ c. search needs)
+    (λ c. search needs)
+    returns
+    returns-2
+    returns-3)

@@ -1,0 +1,2 @@
+-- Present: a value read from an array, within its end or past it.
+pub mod Present

@@ -1,0 +1,71 @@
+// Values as the machine reads, makes and copies them.
+use labels::Label;
+use model::Datum;
+use model::Kind;
+use model::Value;
+ghost use mathlib.Core.Path.{_≡_};
+ghost use Prim.Native.Nat.{min};
+ghost use Rattle.model.specs.State.{number};
+ghost use Rattle.operands.specs.Plans.{labelOf};
+ghost use Rattle.values.specs.Present.{presentOf};
+
+pub fn number(n: u32) -> Value
+    ensures { λ r. ⌜ r ≡ number n ⌝ }
+{
+    Value {
+        datum: Datum::Number(n),
+    }
+}
+
+pub fn least(a: usize, b: usize) -> usize
+    ensures { λ r. ⌜ r ≡ min a b ⌝ }
+{
+    if a < b {
+        return a;
+    }
+    b
+}
+
+// The same datum, field by field: one that was stored so and is loaded whole waits for its stores.
+pub fn same(d: Datum) -> Datum
+    ensures { λ r. ⌜ r ≡ d ⌝ }
+{
+    match d {
+        Datum::Number(n) => Datum::Number(n),
+        Datum::Label(l) => Datum::Label(Label {
+            secrecy: l.secrecy,
+            integrity: l.integrity,
+        }),
+        Datum::Handle(kind, p) => match kind {
+            Kind::Sealed => Datum::Handle(Kind::Sealed, p),
+            Kind::Reference => Datum::Handle(Kind::Reference, p),
+        },
+    }
+}
+
+pub fn same_label(l: Label) -> Label
+    ensures { λ r. ⌜ r ≡ l ⌝ }
+{
+    Label {
+        secrecy: l.secrecy,
+        integrity: l.integrity,
+    }
+}
+
+// What was read for place i of n: past the end stands the number 0.
+pub fn present(i: usize, n: usize, v: Value) -> Datum
+    ensures { λ r. ⌜ r ≡ presentOf i n v ⌝ }
+{
+    if i < n {
+        return v.datum;
+    }
+    Datum::Number(0)
+}
+
+// The label that a value is.
+pub fn label_in(v: Value) -> Label
+    ensures { λ r. ⌜ r ≡ labelOf (v .datum) ⌝ }
+{
+    let d = v.datum;
+    operands::label_of(d)
+}
