@@ -18,7 +18,6 @@ ghost use Prim.Native.Nat.{_^_, _≤_, _<_};
 ghost use lib.ListN.{length, set};
 ghost use Rattle.model.specs.State.{at};
 ghost use Rattle.model.specs.Effects.{holding};
-ghost use Rattle.operands.specs.Plans.{decided};
 ghost use Rattle.store.specs.Slots.{words, slots};
 ghost use Rattle.effects.specs.Decisions.{targetOf, risesOf, raiseOf, lowerOf, makeOf, roomOf, enterOf, withLabel, onLabel, isKind, openedOf, openOf, labelledOf, rewriteOf, writeOf, withHandle, onHandle, onLabels, labelFrom, raisedBy, outcomeOf};
 
@@ -30,12 +29,6 @@ pub struct Account {
     pub next: usize,
     pub limit: usize,
     pub depth: usize,
-}
-
-fn decides(takes: usize, effect: Effect) -> Decision
-    ensures { λ r. ⌜ r ≡ decided takes effect ⌝ }
-{
-    Decision { takes, effect }
 }
 
 // ---- the checks
@@ -140,10 +133,10 @@ fn with_label(f: OnLabel, l: Label, a: Account) -> Decision
     let label = a.label;
     let clearance = a.clearance;
     match f {
-        OnLabel::Raise => decides(1, raise(label, clearance, l)),
-        OnLabel::Lower => decides(1, lower(label, clearance, l)),
-        OnLabel::Make(kind) => decides(2, make(a, kind, l)),
-        OnLabel::Block(t, n, k) => decides(1, enter(a, l, t, n, k)),
+        OnLabel::Raise => operands::decides(1, raise(label, clearance, l)),
+        OnLabel::Lower => operands::decides(1, lower(label, clearance, l)),
+        OnLabel::Make(kind) => operands::decides(2, make(a, kind, l)),
+        OnLabel::Block(t, n, k) => operands::decides(1, enter(a, l, t, n, k)),
     }
 }
 
@@ -153,9 +146,9 @@ fn on_label(f: OnLabel, y: Datum, a: Account) -> Decision
     ensures { λ r. ⌜ r ≡ onLabel f y a ⌝ }
 {
     match y {
-        Datum::Number(_) => decides(1, Effect::Fault(By::None, 22, 0)),
+        Datum::Number(_) => operands::decides(1, Effect::Fault(By::None, 22, 0)),
         Datum::Label(l) => with_label(f, l, a),
-        Datum::Handle(_, _) => decides(1, Effect::Fault(By::None, 22, 0)),
+        Datum::Handle(_, _) => operands::decides(1, Effect::Fault(By::None, 22, 0)),
     }
 }
 
@@ -243,14 +236,14 @@ fn with_handle(f: OnHandle, kind: Kind, p: usize, a: Account, store: &[u64]) -> 
     match f {
         OnHandle::Open(k) => {
             if !is_kind(k, kind) {
-                return decides(1, Effect::Fault(By::None, 22, 0));
+                return operands::decides(1, Effect::Fault(By::None, 22, 0));
             }
-            decides(1, open(label, clearance, p, store))
+            operands::decides(1, open(label, clearance, p, store))
         }
-        OnHandle::Label => decides(1, label_of(p, store)),
+        OnHandle::Label => operands::decides(1, label_of(p, store)),
         OnHandle::Write => match kind {
-            Kind::Sealed => decides(2, Effect::Fault(By::None, 22, 0)),
-            Kind::Reference => decides(2, write(label, clearance, p, store)),
+            Kind::Sealed => operands::decides(2, Effect::Fault(By::None, 22, 0)),
+            Kind::Reference => operands::decides(2, write(label, clearance, p, store)),
         },
     }
 }
@@ -261,8 +254,8 @@ fn on_handle(f: OnHandle, y: Datum, a: Account, store: &[u64]) -> Decision
     ensures { λ r. ⌜ r ≡ onHandle f y a (slots (now (store .entry))) ⌝ }
 {
     match y {
-        Datum::Number(_) => decides(1, Effect::Fault(By::None, 22, 0)),
-        Datum::Label(_) => decides(1, Effect::Fault(By::None, 22, 0)),
+        Datum::Number(_) => operands::decides(1, Effect::Fault(By::None, 22, 0)),
+        Datum::Label(_) => operands::decides(1, Effect::Fault(By::None, 22, 0)),
         Datum::Handle(kind, p) => with_handle(f, kind, p, a, store),
     }
 }
@@ -273,7 +266,7 @@ pub fn on_labels(t: LabelTask, y: Datum, x: Datum, a: Account, store: &[u64]) ->
     ensures { λ r. ⌜ r ≡ onLabels t y x a (slots (now (store .entry))) ⌝ }
 {
     match t {
-        LabelTask::Pair(f) => decides(2, operands::two_labels(f, y, x)),
+        LabelTask::Pair(f) => operands::decides(2, operands::two_labels(f, y, x)),
         LabelTask::Label(f) => on_label(f, y, a),
         LabelTask::Handle(f) => on_handle(f, y, a, store),
     }

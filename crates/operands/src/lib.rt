@@ -121,7 +121,7 @@ pub enum Plan {
     Labels(LabelTask),
 }
 
-fn decides(takes: usize, effect: Effect) -> Decision
+pub fn decides(takes: usize, effect: Effect) -> Decision
     ensures { λ r. ⌜ r ≡ decided takes effect ⌝ }
 {
     Decision { takes, effect }
