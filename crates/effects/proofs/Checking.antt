@@ -23,65 +23,67 @@ use Rattle.model.specs.Effects.{Next, go, fail, checkTarget, act, labelSlot, op
 use Rattle.operands.specs.Program.{program}
 use Rattle.operands.specs.Plans.{decided, faulty}
 use Rattle.operands.specs.declared.Effect.the-variants.{Lower}
-use Rattle.operands.specs.declared.Effect.{Effect}
 use Rattle.operands.specs.declared.Decision.{Decision}
 use Rattle.effects.specs.Decisions.{lent, targetOf, passing, raiseOf, lowerOf, makeOf, enterOf, yieldOf, openOf, labelledOf, writeOf}
-use Rattle.effects.proofs.Taking.{less, Bounded, Fits, Good, fit, good-fault, good-test}
+use Rattle.effects.proofs.Taking.{less, Bounded, Fits, Good, fit, good-fault, good-cond}
 
 module _ (code ws rs : List ℕ) (R : Runner) (c : Control) (a : Account) (σ : Store) (b : Bounded c a) where
   abbrev Does : Datum → Datum → Decision → Next → Type 0
   Does y x d n = Good code ws rs R c a σ y x d n
 
+  pub fault : (y x : Datum) (f : ℕ) → Does y x (faulty f) (fail f 0 c a σ)
+  fault y x f = good-fault code ws rs R c a σ y x f b
+
   -- 23 and 24
-  pass-target : (y x : Datum) (k : ℕ) (l : Label) (e : Effect) (n : Next) → Does y x (decided k e) n
-      → Does y x (decided k (passing (targetOf (a .label) (a .clearance) l) e)) (checkTarget (program code ws rs) l c a σ n)
+  pass-target : (y x : Datum) (l : Label) (d : Decision) (n : Next) → Does y x d n
+      → Does y x (passing (targetOf (a .label) (a .clearance) l) d) (checkTarget (program code ws rs) l c a σ n)
   unfolding targetOf program
-  pass-target y x k l e n g = test (flows (a .label) l) (flows l (a .clearance)) where
-    test : (p q : Bool) → Does y x (decided k (passing (cond p (cond q 0 24) 23) e)) (cond p (cond q n (fail 24 0 c a σ)) (fail 23 0 c a σ))
+  pass-target y x l d n g = test (flows (a .label) l) (flows l (a .clearance)) where
+    test : (p q : Bool) → Does y x (passing (cond p (cond q 0 24) 23) d) (cond p (cond q n (fail 24 0 c a σ)) (fail 23 0 c a σ))
     test true true = g
-    test true false = good-fault code ws rs R c a σ y x k 24
-    test false q = good-fault code ws rs R c a σ y x k 23
+    test true false = fault y x 24
+    test false q = fault y x 23
 
   -- ── on a label ──
 
   module _ (x : Datum) (l : Label) where
-    pub raise-good : 1 ≤ length (c .stack) → Does (Labelled l) x (decided 1 (raiseOf (a .label) (a .clearance) l)) (act (program code ws rs) R c (less 1 c) a σ (raises l))
+    pub raise-good : 1 ≤ length (c .stack) → Does (Labelled l) x (raiseOf (a .label) (a .clearance) l) (act (program code ws rs) R c (less 1 c) a σ (raises l))
     unfolding act program
     raise-good h =
-        good-test code ws rs R c a σ (Labelled l) x 1 (flows (join (a .label) l) (a .clearance))
-        (λ _. record { fits = fit c a 1 0 b h (omega (arith, b .stack)); does = refl })
-        (λ _. good-fault code ws rs R c a σ (Labelled l) x 1 24)
+        good-cond code ws rs R c a σ (Labelled l) x (flows (join (a .label) l) (a .clearance))
+        (λ _. record { there = h; fits = fit c a 1 0 b h (omega (arith, b .stack)); does = refl })
+        (λ _. fault (Labelled l) x 24)
 
-    pub lower-good : 1 ≤ length (c .stack) → Does (Labelled l) x (decided 1 (lowerOf (a .label) (a .clearance) l)) (act (program code ws rs) R c (less 1 c) a σ (lowers l))
+    pub lower-good : 1 ≤ length (c .stack) → Does (Labelled l) x (lowerOf (a .label) (a .clearance) l) (act (program code ws rs) R c (less 1 c) a σ (lowers l))
     unfolding act program
     lower-good h = test (flows (a .label) l) (flows l (a .clearance)) where
-      test : (p q : Bool) → Does (Labelled l) x (decided 1 (cond p (cond q Lower (faulty 25)) (faulty 25))) (cond (p && q) (go (less 1 c) (withClearance l a) σ) (fail 25 0 c a σ))
-      test true true = record { fits = fit c a 1 0 b h (omega (arith, b .stack)); does = refl }
-      test true false = good-fault code ws rs R c a σ (Labelled l) x 1 25
-      test false q = good-fault code ws rs R c a σ (Labelled l) x 1 25
+      test : (p q : Bool) → Does (Labelled l) x (cond p (cond q (decided 1 Lower) (faulty 25)) (faulty 25)) (cond (p && q) (go (less 1 c) (withClearance l a) σ) (fail 25 0 c a σ))
+      test true true = record { there = h; fits = fit c a 1 0 b h (omega (arith, b .stack)); does = refl }
+      test true false = fault (Labelled l) x 25
+      test false q = fault (Labelled l) x 25
 
-    pub make-good : (h : Kind) → 2 ≤ length (c .stack) → Does (Labelled l) x (decided 2 (makeOf (lent a) h l)) (act (program code ws rs) R c (less 2 c) a σ (makes h l x))
+    pub make-good : (h : Kind) → 2 ≤ length (c .stack) → Does (Labelled l) x (makeOf (lent a) h l) (act (program code ws rs) R c (less 2 c) a σ (makes h l x))
     unfolding act program
     make-good h q =
-        pass-target (Labelled l) x 2 l _ _
-        (good-test code ws rs R c a σ (Labelled l) x 2 (ltb (a .next) (a .limit))
-        (λ e. let f : Fits c a 2 1 0 0 0 = fit c a 2 1 b q (omega (arith, b .stack)) in record { fits = record { low = f .low; room = f .room; free = f .free; held = f .held; places = omega (arith, ltb-true (a .next) (a .limit) e) }; does = refl })
-        (λ _. good-fault code ws rs R c a σ (Labelled l) x 2 26))
+        pass-target (Labelled l) x l _ _
+        (good-cond code ws rs R c a σ (Labelled l) x (ltb (a .next) (a .limit))
+        (λ e. let f : Fits (less 2 c) a 1 0 0 0 = fit c a 2 1 b q (omega (arith, b .stack)) in record { there = q; fits = record { room = f .room; free = f .free; held = f .held; places = omega (arith, ltb-true (a .next) (a .limit) e) }; does = refl })
+        (λ _. fault (Labelled l) x 26))
 
-    pub enter-good : (t n j : ℕ) → 1 ≤ length (c .stack) → Does (Labelled l) x (decided 1 (enterOf (lent a) l t n j)) (act (program code ws rs) R c (less 1 c) a σ (blocks l t n j))
+    pub enter-good : (t n j : ℕ) → 1 ≤ length (c .stack) → Does (Labelled l) x (enterOf (lent a) l t n j) (act (program code ws rs) R c (less 1 c) a σ (blocks l t n j))
     unfolding act program targetOf
     enter-good t n j h =
         test (flows (a .label) l) (flows l (a .clearance)) (ltb (a .depth) 8) (leb n (a .steps)) (leb (a .next + 1 + j) (a .limit))
-        (λ u v w. record { fits = record { fits = fit c a 1 1 b h (omega (arith, b .stack)); deep = ltb-true (a .depth) 8 u; time = leb-true n (a .steps) v; room = leb-true (a .next + 1 + j) (a .limit) w }; does = refl })
+        (λ u v w. record { there = h; fits = record { fits = fit c a 1 1 b h (omega (arith, b .stack)); deep = ltb-true (a .depth) 8 u; time = leb-true n (a .steps) v; room = leb-true (a .next + 1 + j) (a .limit) w }; does = refl })
         refl refl refl
       where
-        bad : (f : ℕ) → Does (Labelled l) x (decided 1 (faulty f)) (fail f 0 c a σ)
-        bad f = good-fault code ws rs R c a σ (Labelled l) x 1 f
+        bad : (f : ℕ) → Does (Labelled l) x (faulty f) (fail f 0 c a σ)
+        bad f = fault (Labelled l) x f
 
-        test : (p q u v w : Bool) {e : Effect} {m : Next} → (ltb (a .depth) 8 ≡ true → leb n (a .steps) ≡ true → leb (a .next + 1 + j) (a .limit) ≡ true → Does (Labelled l) x (decided 1 e) m)
+        test : (p q u v w : Bool) {e : Decision} {m : Next} → (ltb (a .depth) 8 ≡ true → leb n (a .steps) ≡ true → leb (a .next + 1 + j) (a .limit) ≡ true → Does (Labelled l) x e m)
             → ltb (a .depth) 8 ≡ u → leb n (a .steps) ≡ v → leb (a .next + 1 + j) (a .limit) ≡ w
             → Does (Labelled l) x
-            (decided 1 (passing (cond (eqb (cond p (cond q 0 24) 23) 0) (cond u (cond v (cond w 0 26) 27) 28) (cond p (cond q 0 24) 23)) e))
+            (passing (cond (eqb (cond p (cond q 0 24) 23) 0) (cond u (cond v (cond w 0 26) 27) 28) (cond p (cond q 0 24) 23)) e)
             (cond p (cond q (cond u (cond v (cond w m (fail 26 0 c a σ)) (fail 27 0 c a σ)) (fail 28 0 c a σ)) (fail 24 0 c a σ)) (fail 23 0 c a σ))
         test true true true true true g d s r = g d s r
         test true true true true false g d s r = bad 26
@@ -93,31 +95,31 @@ module _ (code ws rs : List ℕ) (R : Runner) (c : Control) (a : Account) (σ : 
   -- ── on a handle ──
 
   module _ (y x : Datum) (p : ℕ) where
-    pub open-good : 1 ≤ length (c .stack) → Does y x (decided 1 (openOf (a .label) (a .clearance) p (at σ p))) (act (program code ws rs) R c (less 1 c) a σ (opens p))
+    pub open-good : 1 ≤ length (c .stack) → Does y x (openOf (a .label) (a .clearance) p (at σ p)) (act (program code ws rs) R c (less 1 c) a σ (opens p))
     unfolding act openSlot yield program
     open-good h = test (at σ p) refl where
       inner : (r : Record) (z : Contents) → at σ p ≡ Full r → r .contents ≡ z
-          → Does y x (decided 1 (yieldOf p z)) (yield c (less 1 c) (withLabel (join (a .label) (r .label)) a) σ z)
-      inner r (Holds d) e f = record { fits = fit c a 1 1 b h (omega (arith, b .stack)); does = rw (e, f) }
-      inner r (Faulty q n) e f = record { fits = 0; does = rw e }
+          → Does y x (yieldOf p z) (yield c (less 1 c) (withLabel (join (a .label) (r .label)) a) σ z)
+      inner r (Holds d) e f = record { there = h; fits = fit c a 1 1 b h (omega (arith, b .stack)); does = rw (e, f) }
+      inner r (Faulty q n) e f = record { there = omega arith; fits = fit c a 0 0 b (omega arith) (omega (arith, b .stack)); does = rw e }
 
-      test : (s : Slot) → at σ p ≡ s → Does y x (decided 1 (openOf (a .label) (a .clearance) p s)) (openSlot (program code ws rs) c (less 1 c) a σ s)
-      test Empty e = good-fault code ws rs R c a σ y x 1 33
+      test : (s : Slot) → at σ p ≡ s → Does y x (openOf (a .label) (a .clearance) p s) (openSlot (program code ws rs) c (less 1 c) a σ s)
+      test Empty e = fault y x 33
       test (Full r) e =
-          good-test code ws rs R c a σ y x 1 (flows (join (a .label) (r .label)) (a .clearance))
+          good-cond code ws rs R c a σ y x (flows (join (a .label) (r .label)) (a .clearance))
           (λ _. inner r (r .contents) e refl)
-          (λ _. good-fault code ws rs R c a σ y x 1 24)
+          (λ _. fault y x 24)
 
-    pub label-good : 1 ≤ length (c .stack) → Does y x (decided 1 (labelledOf p (at σ p))) (act (program code ws rs) R c (less 1 c) a σ (labels p))
+    pub label-good : 1 ≤ length (c .stack) → Does y x (labelledOf p (at σ p)) (act (program code ws rs) R c (less 1 c) a σ (labels p))
     unfolding act labelSlot
     label-good h = test (at σ p) refl where
-      test : (s : Slot) → at σ p ≡ s → Does y x (decided 1 (labelledOf p s)) (labelSlot c (less 1 c) a σ s)
-      test Empty e = good-fault code ws rs R c a σ y x 1 33
-      test (Full r) e = record { fits = fit c a 1 1 b h (omega (arith, b .stack)); does = rw e }
+      test : (s : Slot) → at σ p ≡ s → Does y x (labelledOf p s) (labelSlot c (less 1 c) a σ s)
+      test Empty e = fault y x 33
+      test (Full r) e = record { there = h; fits = fit c a 1 1 b h (omega (arith, b .stack)); does = rw e }
 
-    pub write-good : 2 ≤ length (c .stack) → Does y x (decided 2 (writeOf (a .label) (a .clearance) p (at σ p))) (act (program code ws rs) R c (less 2 c) a σ (writes p x))
+    pub write-good : 2 ≤ length (c .stack) → Does y x (writeOf (a .label) (a .clearance) p (at σ p)) (act (program code ws rs) R c (less 2 c) a σ (writes p x))
     unfolding act writeSlot
     write-good h = test (at σ p) refl where
-      test : (s : Slot) → at σ p ≡ s → Does y x (decided 2 (writeOf (a .label) (a .clearance) p s)) (writeSlot (program code ws rs) c (less 2 c) a σ p x s)
-      test Empty e = good-fault code ws rs R c a σ y x 2 33
-      test (Full r) e = pass-target y x 2 (r .label) _ _ (record { fits = fit c a 2 0 b h (omega (arith, b .stack)); does = rw e })
+      test : (s : Slot) → at σ p ≡ s → Does y x (writeOf (a .label) (a .clearance) p s) (writeSlot (program code ws rs) c (less 2 c) a σ p x s)
+      test Empty e = fault y x 33
+      test (Full r) e = pass-target y x (r .label) _ _ (record { there = h; fits = fit c a 2 0 b h (omega (arith, b .stack)); does = rw e })

@@ -23,8 +23,9 @@ use Rattle.store.specs.Records.{labelAt}
 use Rattle.operands.specs.declared.By.{By}
 use Rattle.operands.specs.declared.By.the-variants.{None as NotRaised, Record as ByRecord}
 use Rattle.operands.specs.declared.Origin.{Origin}
-use Rattle.operands.specs.declared.Origin.the-variants.{File, Current, Clearance, Join as JoinOf, Meet as MeetOf, Record as OfRecord}
-use Rattle.operands.specs.declared.Effect.{Effect}
+use Rattle.operands.specs.declared.Origin.the-variants.{File, Current, Clearance, Record as OfRecord}
+use Rattle.operands.specs.declared.Both.{Both}
+use Rattle.operands.specs.declared.Both.the-variants.{Join as JoinOf, Meet as MeetOf}
 use Rattle.operands.specs.declared.Effect.the-variants.{Fault, Label as GivesLabel, Raise, Lower, Make, Write, Open, Block}
 use Rattle.operands.specs.declared.Decision.{Decision}
 use Rattle.operands.specs.declared.OnLabel.{OnLabel}
@@ -35,7 +36,7 @@ use Rattle.operands.specs.declared.LabelTask.{LabelTask}
 use Rattle.operands.specs.declared.LabelTask.the-variants.{Pair as OnPair, Label as ForLabel, Handle as ForHandle}
 use Rattle.operands.specs.declared.Plan.{Plan}
 use Rattle.operands.specs.declared.Plan.the-variants.{Do, Numbers, Labels}
-use Rattle.operands.specs.Plans.{decided, faulty, onNumbers, labelOf, labelsOf}
+use Rattle.operands.specs.Plans.{decided, faulty, onNumbers, labelsOf}
 use Rattle.effects.specs.declared.Account.{Account}
 
 -- the definition's account as the code has it
@@ -52,19 +53,19 @@ abbrev pub risesOf : Label → Label → Label → Bool
 risesOf label clearance l = flows (join label l) clearance
 
 -- what follows a fault's code: 0 lets it pass
-abbrev pub passing : ℕ → Effect → Effect
-passing code e = cond (eqb code 0) e (faulty code)
+abbrev pub passing : ℕ → Decision → Decision
+passing code d = cond (eqb code 0) d (faulty code)
 
 -- ── on a label ──
 
-abbrev pub raiseOf : Label → Label → Label → Effect
-raiseOf label clearance l = cond (risesOf label clearance l) Raise (faulty 24)
+abbrev pub raiseOf : Label → Label → Label → Decision
+raiseOf label clearance l = cond (risesOf label clearance l) (decided 1 Raise) (faulty 24)
 
-abbrev pub lowerOf : Label → Label → Label → Effect
-lowerOf label clearance l = cond (flows label l) (cond (flows l clearance) Lower (faulty 25)) (faulty 25)
+abbrev pub lowerOf : Label → Label → Label → Decision
+lowerOf label clearance l = cond (flows label l) (cond (flows l clearance) (decided 1 Lower) (faulty 25)) (faulty 25)
 
-abbrev pub makeOf : Account → Kind → Label → Effect
-makeOf a h l = passing (targetOf (a .label) (a .clearance) l) (cond (ltb (a .next) (a .limit)) (Make h) (faulty 26))
+abbrev pub makeOf : Account → Kind → Label → Decision
+makeOf a h l = passing (targetOf (a .label) (a .clearance) l) (cond (ltb (a .next) (a .limit)) (decided 2 (Make h)) (faulty 26))
 
 -- BLOCK's checks, as the code of the fault; 0 is none
 abbrev pub roomOf : Account → Label → ℕ → ℕ → ℕ
@@ -75,19 +76,19 @@ roomOf a b n k =
     28)
     (targetOf (a .label) (a .clearance) b)
 
-abbrev pub enterOf : Account → Label → ℕ → ℕ → ℕ → Effect
-enterOf a b t n k = passing (roomOf a b n k) (Block t n k)
+abbrev pub enterOf : Account → Label → ℕ → ℕ → ℕ → Decision
+enterOf a b t n k = passing (roomOf a b n k) (decided 1 (Block t n k))
 
 abbrev pub withLabel : OnLabel → Label → Account → Decision
-withLabel Raises l a = decided 1 (raiseOf (a .label) (a .clearance) l)
-withLabel Lowers l a = decided 1 (lowerOf (a .label) (a .clearance) l)
-withLabel (Makes h) l a = decided 2 (makeOf a h l)
-withLabel (Blocks t n k) l a = decided 1 (enterOf a l t n k)
+withLabel Raises l a = raiseOf (a .label) (a .clearance) l
+withLabel Lowers l a = lowerOf (a .label) (a .clearance) l
+withLabel (Makes h) l a = makeOf a h l
+withLabel (Blocks t n k) l a = enterOf a l t n k
 
 abbrev pub onLabel : OnLabel → Datum → Account → Decision
-onLabel f (Number n) a = decided 1 (faulty 22)
+onLabel f (Number n) a = faulty 22
 onLabel f (Labelled l) a = withLabel f l a
-onLabel f (Handle h p) a = decided 1 (faulty 22)
+onLabel f (Handle h p) a = faulty 22
 
 -- ── on a handle, p its place ──
 
@@ -97,41 +98,41 @@ isKind Sealed Reference = false
 isKind Reference Sealed = false
 isKind Reference Reference = true
 
-abbrev pub yieldOf : ℕ → Contents → Effect
-yieldOf p (Holds d) = Open p
-yieldOf p (Faulty code n) = Fault (ByRecord p) code n
+abbrev pub yieldOf : ℕ → Contents → Decision
+yieldOf p (Holds d) = decided 1 (Open p)
+yieldOf p (Faulty code n) = decided 0 (Fault (ByRecord p) code n)
 
-abbrev pub openedOf : Label → Label → ℕ → Record → Effect
+abbrev pub openedOf : Label → Label → ℕ → Record → Decision
 openedOf label clearance p r = cond (risesOf label clearance (r .label)) (yieldOf p (r .contents)) (faulty 24)
 
-abbrev pub openOf : Label → Label → ℕ → Slot → Effect
+abbrev pub openOf : Label → Label → ℕ → Slot → Decision
 openOf label clearance p Empty = faulty 33
 openOf label clearance p (Full r) = openedOf label clearance p r
 
-abbrev pub labelledOf : ℕ → Slot → Effect
+abbrev pub labelledOf : ℕ → Slot → Decision
 labelledOf p Empty = faulty 33
-labelledOf p (Full r) = GivesLabel (OfRecord p)
+labelledOf p (Full r) = decided 1 (GivesLabel (OfRecord p))
 
-abbrev pub rewriteOf : Label → Label → ℕ → Record → Effect
-rewriteOf label clearance p r = passing (targetOf label clearance (r .label)) (Write p)
+abbrev pub rewriteOf : Label → Label → ℕ → Record → Decision
+rewriteOf label clearance p r = passing (targetOf label clearance (r .label)) (decided 2 (Write p))
 
-abbrev pub writeOf : Label → Label → ℕ → Slot → Effect
+abbrev pub writeOf : Label → Label → ℕ → Slot → Decision
 writeOf label clearance p Empty = faulty 33
 writeOf label clearance p (Full r) = rewriteOf label clearance p r
 
 abbrev pub withHandle : OnHandle → Kind → ℕ → Account → Store → Decision
-withHandle (Opens k) h p a σ = decided 1 (cond (isKind k h) (openOf (a .label) (a .clearance) p (at σ p)) (faulty 22))
-withHandle LabelOf h p a σ = decided 1 (labelledOf p (at σ p))
-withHandle Writes h p a σ = decided 2 (cond (isKind Reference h) (writeOf (a .label) (a .clearance) p (at σ p)) (faulty 22))
+withHandle (Opens k) h p a σ = cond (isKind k h) (openOf (a .label) (a .clearance) p (at σ p)) (faulty 22)
+withHandle LabelOf h p a σ = labelledOf p (at σ p)
+withHandle Writes h p a σ = cond (isKind Reference h) (writeOf (a .label) (a .clearance) p (at σ p)) (faulty 22)
 
 abbrev pub onHandle : OnHandle → Datum → Account → Store → Decision
-onHandle f (Number n) a σ = decided 1 (faulty 22)
-onHandle f (Labelled l) a σ = decided 1 (faulty 22)
+onHandle f (Number n) a σ = faulty 22
+onHandle f (Labelled l) a σ = faulty 22
 onHandle f (Handle h p) a σ = withHandle f h p a σ
 
 -- y and x being the top operand and the one below
 abbrev pub onLabels : LabelTask → Datum → Datum → Account → Store → Decision
-onLabels (OnPair f) y x a σ = decided 2 (labelsOf f y x)
+onLabels (OnPair f) y x a σ = labelsOf f y x
 onLabels (ForLabel f) y x a σ = onLabel f y a
 onLabels (ForHandle f) y x a σ = onHandle f y a σ
 
@@ -143,13 +144,16 @@ decisionOf (Labels t) y x a σ = onLabels t y x a σ
 
 -- ── where a label lies ──
 
-abbrev pub labelFrom : Origin → Datum → Datum → Label → Label → List ℕ → Store → Label
-labelFrom (File i) y x label clearance ws σ = labelIn ws i
-labelFrom Current y x label clearance ws σ = label
-labelFrom Clearance y x label clearance ws σ = clearance
-labelFrom JoinOf y x label clearance ws σ = join (labelOf x) (labelOf y)
-labelFrom MeetOf y x label clearance ws σ = meet (labelOf x) (labelOf y)
-labelFrom (OfRecord p) y x label clearance ws σ = labelAt (at σ p)
+abbrev pub labelFrom : Origin → Label → Label → List ℕ → Store → Label
+labelFrom (File i) label clearance ws σ = labelIn ws i
+labelFrom Current label clearance ws σ = label
+labelFrom Clearance label clearance ws σ = clearance
+labelFrom (OfRecord p) label clearance ws σ = labelAt (at σ p)
+
+-- m being the label on top and l the one below
+abbrev pub pairedOf : Both → Label → Label → Label
+pairedOf JoinOf m l = join l m
+pairedOf MeetOf m l = meet l m
 
 -- the label that a fault leaves
 abbrev pub raisedBy : Label → By → Store → Label

@@ -6,6 +6,7 @@ use model::Ending;
 use model::Kind;
 use model::Record;
 use model::Slot;
+use operands::Both;
 use operands::By;
 use operands::Decision;
 use operands::Effect;
@@ -19,7 +20,7 @@ ghost use lib.ListN.{length, set};
 ghost use Rattle.model.specs.State.{at};
 ghost use Rattle.model.specs.Effects.{holding};
 ghost use Rattle.store.specs.Slots.{words, slots};
-ghost use Rattle.effects.specs.Decisions.{targetOf, risesOf, raiseOf, lowerOf, makeOf, roomOf, enterOf, withLabel, onLabel, isKind, openedOf, openOf, labelledOf, rewriteOf, writeOf, withHandle, onHandle, onLabels, labelFrom, raisedBy, outcomeOf};
+ghost use Rattle.effects.specs.Decisions.{targetOf, risesOf, raiseOf, lowerOf, makeOf, roomOf, enterOf, withLabel, onLabel, isKind, openedOf, openOf, labelledOf, rewriteOf, writeOf, withHandle, onHandle, onLabels, labelFrom, pairedOf, raisedBy, outcomeOf};
 
 // The account of a run, as far as faults 23 to 28 look at it.
 pub struct Account {
@@ -55,41 +56,41 @@ fn rises(label: Label, clearance: Label, l: Label) -> bool
 
 // ---- on a label
 
-fn raise(label: Label, clearance: Label, l: Label) -> Effect
+fn raise(label: Label, clearance: Label, l: Label) -> Decision
     ensures { λ r. ⌜ r ≡ raiseOf label clearance l ⌝ }
 {
     if !rises(label, clearance, l) {
-        return Effect::Fault(By::None, 24, 0);
+        return operands::faulty(24);
     }
-    Effect::Raise
+    operands::decides(1, Effect::Raise)
 }
 
-fn lower(label: Label, clearance: Label, l: Label) -> Effect
+fn lower(label: Label, clearance: Label, l: Label) -> Decision
     ensures { λ r. ⌜ r ≡ lowerOf label clearance l ⌝ }
 {
     if !labels::flows(label, l) {
-        return Effect::Fault(By::None, 25, 0);
+        return operands::faulty(25);
     }
     if !labels::flows(l, clearance) {
-        return Effect::Fault(By::None, 25, 0);
+        return operands::faulty(25);
     }
-    Effect::Lower
+    operands::decides(1, Effect::Lower)
 }
 
 // SEAL, NEW.
-fn make(a: Account, kind: Kind, l: Label) -> Effect
+fn make(a: Account, kind: Kind, l: Label) -> Decision
     ensures { λ r. ⌜ r ≡ makeOf a kind l ⌝ }
 {
     let label = a.label;
     let clearance = a.clearance;
     let fault = target(label, clearance, l);
     if fault != 0 {
-        return Effect::Fault(By::None, fault, 0);
+        return operands::faulty(fault);
     }
     if a.limit <= a.next {
-        return Effect::Fault(By::None, 26, 0);
+        return operands::faulty(26);
     }
-    Effect::Make(kind)
+    operands::decides(2, Effect::Make(kind))
 }
 
 // BLOCK's checks on its bound, n and k, as the code of the fault; 0 is none.
@@ -115,15 +116,15 @@ fn room(a: Account, b: Label, n: usize, k: usize) -> u32
     0
 }
 
-fn enter(a: Account, b: Label, t: usize, n: usize, k: usize) -> Effect
+fn enter(a: Account, b: Label, t: usize, n: usize, k: usize) -> Decision
     requires { ⌜ a .next ≤ a .limit ⌝ }
     ensures { λ r. ⌜ r ≡ enterOf a b t n k ⌝ }
 {
     let fault = room(a, b, n, k);
     if fault != 0 {
-        return Effect::Fault(By::None, fault, 0);
+        return operands::faulty(fault);
     }
-    Effect::Block(t, n, k)
+    operands::decides(1, Effect::Block(t, n, k))
 }
 
 fn with_label(f: OnLabel, l: Label, a: Account) -> Decision
@@ -133,10 +134,10 @@ fn with_label(f: OnLabel, l: Label, a: Account) -> Decision
     let label = a.label;
     let clearance = a.clearance;
     match f {
-        OnLabel::Raise => operands::decides(1, raise(label, clearance, l)),
-        OnLabel::Lower => operands::decides(1, lower(label, clearance, l)),
-        OnLabel::Make(kind) => operands::decides(2, make(a, kind, l)),
-        OnLabel::Block(t, n, k) => operands::decides(1, enter(a, l, t, n, k)),
+        OnLabel::Raise => raise(label, clearance, l),
+        OnLabel::Lower => lower(label, clearance, l),
+        OnLabel::Make(kind) => make(a, kind, l),
+        OnLabel::Block(t, n, k) => enter(a, l, t, n, k),
     }
 }
 
@@ -146,9 +147,9 @@ fn on_label(f: OnLabel, y: Datum, a: Account) -> Decision
     ensures { λ r. ⌜ r ≡ onLabel f y a ⌝ }
 {
     match y {
-        Datum::Number(_) => operands::decides(1, Effect::Fault(By::None, 22, 0)),
+        Datum::Number(_) => operands::faulty(22),
         Datum::Label(l) => with_label(f, l, a),
-        Datum::Handle(_, _) => operands::decides(1, Effect::Fault(By::None, 22, 0)),
+        Datum::Handle(_, _) => operands::faulty(22),
     }
 }
 
@@ -169,60 +170,62 @@ fn is_kind(k: Kind, kind: Kind) -> bool
     }
 }
 
-fn opened(label: Label, clearance: Label, p: usize, r: Record) -> Effect
+fn opened(label: Label, clearance: Label, p: usize, r: Record) -> Decision
     ensures { λ e. ⌜ e ≡ openedOf label clearance p r ⌝ }
 {
     let l = r.label;
     if !rises(label, clearance, l) {
-        return Effect::Fault(By::None, 24, 0);
+        return operands::faulty(24);
     }
     let contents = r.contents;
     match contents {
-        Contents::Value(_) => Effect::Open(p),
-        Contents::Fault(code, number) => Effect::Fault(By::Record(p), code, number),
+        Contents::Value(_) => operands::decides(1, Effect::Open(p)),
+        Contents::Fault(code, number) => {
+            operands::decides(0, Effect::Fault(By::Record(p), code, number))
+        }
     }
 }
 
 // OPEN, READ.
-fn open(label: Label, clearance: Label, p: usize, store: &[u64]) -> Effect
+fn open(label: Label, clearance: Label, p: usize, store: &[u64]) -> Decision
     requires { ⌜ length (now store) ≡ words ⌝ }
     ensures { λ r. ⌜ r ≡ openOf label clearance p (at (slots (now (store .entry))) p) ⌝ }
 {
     match store::load(store, p) {
-        Slot::Empty => Effect::Fault(By::None, 33, 0),
+        Slot::Empty => operands::faulty(33),
         Slot::Full(r) => opened(label, clearance, p, r),
     }
 }
 
 // LABOF.
-fn label_of(p: usize, store: &[u64]) -> Effect
+fn label_of(p: usize, store: &[u64]) -> Decision
     requires { ⌜ length (now store) ≡ words ⌝ }
     ensures { λ r. ⌜ r ≡ labelledOf p (at (slots (now (store .entry))) p) ⌝ }
 {
     match store::load(store, p) {
-        Slot::Empty => Effect::Fault(By::None, 33, 0),
-        Slot::Full(_) => Effect::Label(Origin::Record(p)),
+        Slot::Empty => operands::faulty(33),
+        Slot::Full(_) => operands::decides(1, Effect::Label(Origin::Record(p))),
     }
 }
 
-fn rewrite(label: Label, clearance: Label, p: usize, r: Record) -> Effect
+fn rewrite(label: Label, clearance: Label, p: usize, r: Record) -> Decision
     ensures { λ e. ⌜ e ≡ rewriteOf label clearance p r ⌝ }
 {
     let l = r.label;
     let fault = target(label, clearance, l);
     if fault != 0 {
-        return Effect::Fault(By::None, fault, 0);
+        return operands::faulty(fault);
     }
-    Effect::Write(p)
+    operands::decides(2, Effect::Write(p))
 }
 
 // WRITE.
-fn write(label: Label, clearance: Label, p: usize, store: &[u64]) -> Effect
+fn write(label: Label, clearance: Label, p: usize, store: &[u64]) -> Decision
     requires { ⌜ length (now store) ≡ words ⌝ }
     ensures { λ r. ⌜ r ≡ writeOf label clearance p (at (slots (now (store .entry))) p) ⌝ }
 {
     match store::load(store, p) {
-        Slot::Empty => Effect::Fault(By::None, 33, 0),
+        Slot::Empty => operands::faulty(33),
         Slot::Full(r) => rewrite(label, clearance, p, r),
     }
 }
@@ -236,14 +239,14 @@ fn with_handle(f: OnHandle, kind: Kind, p: usize, a: Account, store: &[u64]) -> 
     match f {
         OnHandle::Open(k) => {
             if !is_kind(k, kind) {
-                return operands::decides(1, Effect::Fault(By::None, 22, 0));
+                return operands::faulty(22);
             }
-            operands::decides(1, open(label, clearance, p, store))
+            open(label, clearance, p, store)
         }
-        OnHandle::Label => operands::decides(1, label_of(p, store)),
+        OnHandle::Label => label_of(p, store),
         OnHandle::Write => match kind {
-            Kind::Sealed => operands::decides(2, Effect::Fault(By::None, 22, 0)),
-            Kind::Reference => operands::decides(2, write(label, clearance, p, store)),
+            Kind::Sealed => operands::faulty(22),
+            Kind::Reference => write(label, clearance, p, store),
         },
     }
 }
@@ -254,8 +257,8 @@ fn on_handle(f: OnHandle, y: Datum, a: Account, store: &[u64]) -> Decision
     ensures { λ r. ⌜ r ≡ onHandle f y a (slots (now (store .entry))) ⌝ }
 {
     match y {
-        Datum::Number(_) => operands::decides(1, Effect::Fault(By::None, 22, 0)),
-        Datum::Label(_) => operands::decides(1, Effect::Fault(By::None, 22, 0)),
+        Datum::Number(_) => operands::faulty(22),
+        Datum::Label(_) => operands::faulty(22),
         Datum::Handle(kind, p) => with_handle(f, kind, p, a, store),
     }
 }
@@ -266,7 +269,7 @@ pub fn on_labels(t: LabelTask, y: Datum, x: Datum, a: Account, store: &[u64]) ->
     ensures { λ r. ⌜ r ≡ onLabels t y x a (slots (now (store .entry))) ⌝ }
 {
     match t {
-        LabelTask::Pair(f) => operands::decides(2, operands::two_labels(f, y, x)),
+        LabelTask::Pair(f) => operands::two_labels(f, y, x),
         LabelTask::Label(f) => on_label(f, y, a),
         LabelTask::Handle(f) => on_handle(f, y, a, store),
     }
@@ -274,26 +277,26 @@ pub fn on_labels(t: LabelTask, y: Datum, x: Datum, a: Account, store: &[u64]) ->
 
 // ---- where a label lies
 
-// The label that is to be pushed, y and x being the top operand and the one below.
-pub fn label_from(
-    o: Origin,
-    y: Datum,
-    x: Datum,
-    label: Label,
-    clearance: Label,
-    labels: &[u64],
-    store: &[u64],
-) -> Label
+// The label that is to be pushed.
+pub fn label_from(o: Origin, label: Label, clearance: Label, labels: &[u64], store: &[u64]) -> Label
     requires { ⌜ (length (now labels) < 2 ^ 32) × (length (now store) ≡ words) ⌝ }
-    ensures { λ r. ⌜ r ≡ labelFrom o y x label clearance (now (labels .entry)) (slots (now (store .entry))) ⌝ }
+    ensures { λ r. ⌜ r ≡ labelFrom o label clearance (now (labels .entry)) (slots (now (store .entry))) ⌝ }
 {
     match o {
         Origin::File(i) => operands::label_at(labels, i),
         Origin::Current => label,
         Origin::Clearance => clearance,
-        Origin::Join => labels::join(operands::label_of(x), operands::label_of(y)),
-        Origin::Meet => labels::meet(operands::label_of(x), operands::label_of(y)),
         Origin::Record(p) => store::label_of(store, p),
+    }
+}
+
+// JOIN, MEET: m is the label on top, l the one below.
+pub fn paired(f: Both, m: Label, l: Label) -> Label
+    ensures { λ r. ⌜ r ≡ pairedOf f m l ⌝ }
+{
+    match f {
+        Both::Join => labels::join(l, m),
+        Both::Meet => labels::meet(l, m),
     }
 }
 

@@ -2,5 +2,6 @@
 -- instructions one after the other, and a run.
 pub mod Stack
 pub mod Methods
+pub mod Indices
 pub mod Applying
 pub mod Turns

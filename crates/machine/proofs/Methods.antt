@@ -128,15 +128,14 @@ pub bounded : (s : State) → Ok s → Bounded (control s) (account s)
 bounded s o = record { stack = omega (arith, stack-length s o); frames = omega (arith, frames-length s o); places = o .places .used }
 
 -- what an effect needs, in the state's own numbers
-pub record Room (s : State) (k g f d m : ℕ) : Type 0 where
-  pub low : s .top + k ≤ 32
-  pub room : g ≤ s .top + k
+pub record Room (s : State) (g f d m : ℕ) : Type 0 where
+  pub room : g ≤ s .top
   pub free : f ≤ s .newest
   pub held : d + s .newest ≤ 8
   pub places : m + s .next ≤ s .limit
 
-pub roomy : (s : State) {k g f d m : ℕ} → Ok s → Fits (control s) (account s) k g f d m → Room s k g f d m
+pub roomy : (s : State) {g f d m : ℕ} → Ok s → Fits (control s) (account s) g f d m → Room s g f d m
 roomy s o w =
     let h = stack-length s o in
     let n = frames-length s o in
-    record { low = omega (arith, h, w .low); room = omega (arith, h, w .room); free = omega (arith, n, w .free); held = omega (arith, n, w .held); places = w .places }
+    record { room = omega (arith, h, w .room); free = omega (arith, n, w .free); held = omega (arith, n, w .held); places = w .places }

@@ -1,6 +1,6 @@
 -- How the code's instructions meet the definition, one after the other.
 use mathlib.Core.Bool.{Bool, true, false, cond, not}
-use mathlib.Core.Path.{_≡_, refl, sym, ap, _∙_}
+use mathlib.Core.Path.{_≡_, refl, sym, ap, subst, _∙_}
 use mathlib.Core.List.{List}
 use Prim.Native.Nat.{ℕ, zero, suc, _+_, _-_, min, _≤_, _<_}
 use native.Mathlib.Omega.{arith}
@@ -8,7 +8,6 @@ use native.Mathlib.Nat.{le-refl}
 use lib.Dec.{ltb}
 use borrow.Author.Tests.{ltb-true, ltb-false, lt-ltb, not-false}
 use lib.ListN.{length, getD, replicate}
-use Rattle.model.specs.declared.Datum.{Datum}
 use Rattle.model.specs.declared.Value.{Value}
 use Rattle.model.specs.declared.Ending.{Ending}
 use Rattle.model.specs.declared.Ending.the-variants.{Spent}
@@ -27,15 +26,15 @@ use Rattle.operands.specs.Program.{program}
 use Rattle.operands.specs.Plans.{planOf}
 use Rattle.effects.specs.declared.Account.{Account as Lent}
 use Rattle.effects.specs.Decisions.{lent, decisionOf}
-use Rattle.effects.proofs.Taking.{Good, Cleared, settle}
+use Rattle.effects.proofs.Taking.{FitsEffect, Good, Cleared, settle}
 use Rattle.effects.proofs.Bridge.{decision-performs}
 use Rattle.machine.specs.declared.Status.{Status}
 use Rattle.machine.specs.declared.Status.the-variants.{Running, Ended}
 use Rattle.machine.specs.declared.State.{State}
-use Rattle.machine.specs.State.{no-frame, Ok, Live, control, account, nextOn, nextOf, endingOf, outcomeOf, isLive, Ran, charged}
+use Rattle.machine.specs.State.{no-frame, Ok, Live, control, account, nextOn, nextOf, endingOf, outcomeOf, isLive, Ran, popped, charged}
 use Rattle.machine.specs.Steps.{Finishes, owned, borne, begun, fresh}
 use Rattle.machine.specs.Turns.{readyOf, turns}
-use Rattle.machine.proofs.Methods.{jumped, next-live, stack-length, frames-length, bounded, tops}
+use Rattle.machine.proofs.Methods.{jumped, ok-popped, control-popped, next-live, stack-length, frames-length, bounded, tops}
 
 -- what the code tests
 pub ready-ended : (s : State) → isLive (s .progress .status) ≡ false → false ≡ readyOf s
@@ -62,13 +61,37 @@ found code ws rs s σ q f g d o ef eg eq ed =
     let n : 8 - s .newest ≡ length (control s1 .frames) = omega (arith, frames-length s o) in
     let w = decision-performs code ws rs (runs (program code ws rs)) (control s1) (account s1) σ (bounded s1 o) _ _ (tops s1 f g o ef eg) (q .instr) in
     let e = ap (λ (x : Decoded). perform (program code ws rs) (runs (program code ws rs)) (control (jumped (x .after) s)) (account s) σ (plan (program code ws rs) (account s) (control (jumped (x .after) s)) (x .instr))) eq in
-    rw (ed, h, n) (record { fits = w .fits; does = w .does ∙ e })
+    rw (ed, h, n) (record { there = w .there; fits = w .fits; does = w .does ∙ e })
+
+-- the same of r, whose operands are dropped: f and g are where the two on top lie
+pub record Applies (code ws rs : List ℕ) (r : State) (σ : Store) (f g : ℕ) (e : Effect) (n : Next) : Type 0 where
+  pub ok : Ok r
+  pub live : Live r
+  pub fits : FitsEffect (control r) (account r) e
+  pub does : settle code ws rs (runs (program code ws rs)) (control r) (account r) σ (getD (r .stack) f (number 0) .datum) (getD (r .stack) g (number 0) .datum) e ≡ n
+
+pub takes-there : (s : State) (k : ℕ) → Ok s → k ≤ length (control s .stack) → s .top + k ≤ 32
+takes-there s k o h = omega (arith, stack-length s o, h)
+
+pub dropped : (code ws rs : List ℕ) (s r : State) (σ : Store) (f g : ℕ) (d : Decision) (n : Next) → Ok s → Live s
+    → Good code ws rs (runs (program code ws rs)) (control s) (account s) σ (getD (s .stack) f (number 0) .datum) (getD (s .stack) g (number 0) .datum) d n → r ≡ popped (d .takes) s
+    → Applies code ws rs r σ f g (d .effect) n
+dropped code ws rs s r σ f g d n o l w e =
+    let P : Program = program code ws rs in
+    let q = control-popped (d .takes) s in
+    rw e
+    (record {
+      ok = ok-popped (d .takes) s o (takes-there s (d .takes) o (w .there));
+      live = l;
+      fits = subst (λ (c : Control). FitsEffect c (account s) (d .effect)) (sym q) (w .fits);
+      does = ap (λ (c : Control). settle code ws rs (runs P) c (account s) σ (getD (s .stack) f (number 0) .datum) (getD (s .stack) g (number 0) .datum) (d .effect)) q ∙ w .does;
+    })
 
 -- an effect that is applied is the step
-pub taken-over : (code ws rs : List ℕ) (c : Control) (a : Account) (σ τ : Store) (y x : Datum) (d : Decision) (e : Effect) (r : State) (n : Next) → Good code ws rs (runs (program code ws rs)) c a σ y x d n → d .effect ≡ e
-    → Ran r τ (settle code ws rs (runs (program code ws rs)) c a σ y x (d .takes) e) → Ran r τ n
-taken-over code ws rs c a σ τ y x d e r n w ee ran =
-    record { ok = ran .ok; eq = ran .eq ∙ ap (settle code ws rs (runs (program code ws rs)) c a σ y x (d .takes)) (sym ee) ∙ w .does }
+pub taken-over : (code ws rs : List ℕ) (s : State) (σ τ : Store) (f g : ℕ) (e h : Effect) (r : State) (n : Next) → Applies code ws rs s σ f g e n → e ≡ h
+    → Ran r τ (settle code ws rs (runs (program code ws rs)) (control s) (account s) σ (getD (s .stack) f (number 0) .datum) (getD (s .stack) g (number 0) .datum) h) → Ran r τ n
+taken-over code ws rs s σ τ f g e h r n w q ran =
+    record { ok = ran .ok; eq = ran .eq ∙ ap (settle code ws rs (runs (program code ws rs)) (control s) (account s) σ (getD (s .stack) f (number 0) .datum) (getD (s .stack) g (number 0) .datum)) (sym q) ∙ w .does }
 
 pub runs-step : (P : Program) (c : Control) (a : Account) (σ : Store) → 0 < a .steps → runs P c a σ ≡ resume (runs P) (step P (runs P) c (withSteps (a .steps - 1) a) σ)
 runs-step P c a σ h = runs-next P c a σ (a .steps - 1) (omega arith)
@@ -212,8 +235,8 @@ pub record Inside (n : ℕ) (b : Lent) : Type 0 where
   pub used : b .next ≤ b .limit
   pub most : b .limit ≤ 256
 
-pub inside : (s : State) (k n j : ℕ) (b : Lent) → Ok s → Cleared (control s) (account s) k n j → b ≡ borne n j (lent (account s)) → Inside n b
-inside s k n j b o c e = let m = o .places .most in let r = c .room in rw e (record { time = refl; used = omega arith; most = omega arith })
+pub inside : (s : State) (n j : ℕ) (b : Lent) → Ok s → Cleared (control s) (account s) n j → b ≡ borne n j (lent (account s)) → Inside n b
+inside s n j b o c e = let m = o .places .most in let r = c .room in rw e (record { time = refl; used = omega arith; most = omega arith })
 
 -- ── the start ──
 

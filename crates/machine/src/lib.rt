@@ -242,9 +242,10 @@ impl State {
                     effects::on_labels(t, y, x, account, store)
                 }
             };
-            // then apply, in place.
-            let k = d.takes;
+            // then apply, in place. A value that is dropped still lies where it lay.
             let e = d.effect;
+            self = self.pop(d.takes);
+            let low = self.top;
             match e {
                 Effect::Fault(by, code, n) => {
                     let label = self.label;
@@ -258,36 +259,41 @@ impl State {
                         self = self.caught(f.handler, f.height, code, n);
                     }
                 }
-                Effect::Drop => {
-                    self = self.pop(k);
-                }
+                Effect::Drop => {}
                 Effect::Jump(t) => {
-                    self.top = top + k;
                     self.pc = t;
                 }
                 Effect::Number(n) => {
-                    let at = top + k - 1;
+                    let at = low - 1;
                     self.stack[at] = values::number(n);
                     self.top = at;
                 }
                 Effect::Handle(kind, p) => {
-                    let at = top + k - 1;
+                    let at = low - 1;
                     self.stack[at] = Value {
                         datum: Datum::Handle(kind, p),
                     };
                     self.top = at;
                 }
                 Effect::Label(o) => {
-                    let v = self.stack[first];
-                    let u = self.stack[second];
-                    let y = v.datum;
-                    let x = u.datum;
                     let label = self.label;
                     let clearance = self.clearance;
-                    let l = effects::label_from(o, y, x, label, clearance, labels, store);
-                    let at = top + k - 1;
+                    let l = effects::label_from(o, label, clearance, labels, store);
+                    let at = low - 1;
                     self.stack[at] = Value {
                         datum: Datum::Label(l),
+                    };
+                    self.top = at;
+                }
+                Effect::Pair(f) => {
+                    let v = self.stack[first];
+                    let u = self.stack[second];
+                    let m = values::label_in(v);
+                    let l = values::label_in(u);
+                    let both = effects::paired(f, m, l);
+                    let at = low - 1;
+                    self.stack[at] = Value {
+                        datum: Datum::Label(both),
                     };
                     self.top = at;
                 }
@@ -295,21 +301,18 @@ impl State {
                     let from = values::least(i, 15);
                     let v = self.locals[from];
                     let d = values::present(i, 16, v);
-                    let at = top + k - 1;
+                    let at = low - 1;
                     self.stack[at] = Value { datum: d };
                     self.top = at;
                 }
                 Effect::Set(i) => {
-                    self.top = top + k;
                     if i < 16 {
                         let v = self.stack[first];
                         self.locals[i] = v;
                     }
                 }
                 Effect::Try(h) => {
-                    let low = top + k;
                     let newest = self.newest - 1;
-                    self.top = low;
                     self.frames[newest] = Frame {
                         handler: h,
                         height: 32 - low,
@@ -319,7 +322,6 @@ impl State {
                 Effect::Done => {
                     let newest = self.newest;
                     self.newest = newest + 1;
-                    self.top = top + k;
                 }
                 Effect::End => {
                     let v = self.stack[first];
@@ -330,13 +332,11 @@ impl State {
                     let v = self.stack[first];
                     let l = values::label_in(v);
                     self = self.raise(l);
-                    self.top = top + k;
                 }
                 Effect::Lower => {
                     let v = self.stack[first];
                     let l = values::label_in(v);
                     self.clearance = l;
-                    self.top = top + k;
                 }
                 Effect::Make(kind) => {
                     let v = self.stack[first];
@@ -345,7 +345,7 @@ impl State {
                     let next = self.next;
                     let l = values::label_in(v);
                     effects::keep(kind, l, x, next, store);
-                    let at = top + k - 1;
+                    let at = low - 1;
                     self.stack[at] = Value {
                         datum: Datum::Handle(kind, next),
                     };
@@ -356,13 +356,12 @@ impl State {
                     let u = self.stack[second];
                     let x = u.datum;
                     store::rewrite(store, p, x);
-                    self.top = top + k;
                 }
                 Effect::Open(p) => {
                     let l = store::label_of(store, p);
                     let d = store::value_of(store, p);
                     self = self.raise(l);
-                    let at = top + k - 1;
+                    let at = low - 1;
                     self.stack[at] = Value { datum: d };
                     self.top = at;
                 }
@@ -381,7 +380,7 @@ impl State {
                     effects::conclude(b, l, ending, next, store);
                     self = self.charge(n);
                     self.next = next + 1 + places;
-                    let at = top + k - 1;
+                    let at = low - 1;
                     self.stack[at] = Value {
                         datum: Datum::Handle(Kind::Sealed, next),
                     };

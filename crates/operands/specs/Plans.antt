@@ -14,9 +14,10 @@ use Rattle.model.specs.declared.Datum.the-variants.{Number, Label as Labelled, 
 use Rattle.model.specs.declared.Instr.{Instr}
 use Rattle.model.specs.declared.Instr.the-variants.{End, Push, Lab, Get, Set, Pop, Add, Sub, Less, Same, Jump, Ifz, Cur, Clr, Raise, Lower, Flows, Join, Meet, Seal, Open, Labof, New, Read, Write, Block, Try, Done, Throw, Input}
 use Rattle.operands.specs.declared.By.the-variants.{None as NotRaised}
-use Rattle.operands.specs.declared.Origin.the-variants.{File, Current, Clearance, Join as JoinOf, Meet as MeetOf}
+use Rattle.operands.specs.declared.Origin.the-variants.{File, Current, Clearance}
+use Rattle.operands.specs.declared.Both.the-variants.{Join as JoinOf, Meet as MeetOf}
 use Rattle.operands.specs.declared.Effect.{Effect}
-use Rattle.operands.specs.declared.Effect.the-variants.{Fault, Drop, Jump as Jumps, Number as Gives, Handle as GivesHandle, Label as GivesLabel, Get as Gets, Set as Sets, Try as Tries, Done as Leaves, End as Ends}
+use Rattle.operands.specs.declared.Effect.the-variants.{Fault, Drop, Jump as Jumps, Number as Gives, Handle as GivesHandle, Label as GivesLabel, Pair as GivesPair, Get as Gets, Set as Sets, Try as Tries, Done as Leaves, End as Ends}
 use Rattle.operands.specs.declared.Decision.{Decision}
 use Rattle.operands.specs.declared.Arith.{Arith}
 use Rattle.operands.specs.declared.Arith.the-variants.{Add as Adds, Sub as Subs, Less as Lesser, Same as Equal}
@@ -37,40 +38,40 @@ abbrev pub decided : ℕ → Effect → Decision
 decided k e = record { takes = k; effect = e }
 
 -- a fault that raises no label, with number 0
-abbrev pub faulty : ℕ → Effect
-faulty code = Fault NotRaised code 0
+abbrev pub faulty : ℕ → Decision
+faulty code = decided 0 (Fault NotRaised code 0)
 
 -- ── numbers: 22 where an operand is another ──
 
-abbrev pub onNumber : Datum → (ℕ → Effect) → Effect
+abbrev pub onNumber : Datum → (ℕ → Decision) → Decision
 onNumber (Number n) k = k n
 onNumber (Labelled l) k = faulty 22
 onNumber (Handle h p) k = faulty 22
 
--- 1 or 0
-abbrev pub bitOf : Bool → Effect
-bitOf true = Gives 1
-bitOf false = Gives 0
+-- 1 or 0, for two operands
+abbrev pub bitOf : Bool → Decision
+bitOf true = decided 2 (Gives 1)
+bitOf false = decided 2 (Gives 0)
 
-abbrev pub arithOf : Arith → ℕ → ℕ → Effect
-arithOf Adds y x = Gives ((x + y) % 2 ^ 32)
-arithOf Subs y x = Gives ((x + 2 ^ 32 - y) % 2 ^ 32)
+abbrev pub arithOf : Arith → ℕ → ℕ → Decision
+arithOf Adds y x = decided 2 (Gives ((x + y) % 2 ^ 32))
+arithOf Subs y x = decided 2 (Gives ((x + 2 ^ 32 - y) % 2 ^ 32))
 arithOf Lesser y x = bitOf (ltb x y)
 arithOf Equal y x = bitOf (eqb x y)
 
-abbrev pub numbersOf : Arith → Datum → Datum → Effect
+abbrev pub numbersOf : Arith → Datum → Datum → Decision
 numbersOf f y x = onNumber y (λ b. onNumber x (λ a. arithOf f b a))
 
-abbrev pub testOf : Test → ℕ → Effect
-testOf (Branch t) n = cond (eqb n 0) (Jumps t) Drop
-testOf Throws n = Fault NotRaised 30 n
+abbrev pub testOf : Test → ℕ → Decision
+testOf (Branch t) n = cond (eqb n 0) (decided 1 (Jumps t)) (decided 1 Drop)
+testOf Throws n = decided 0 (Fault NotRaised 30 n)
 
-abbrev pub numberOf : Test → Datum → Effect
+abbrev pub numberOf : Test → Datum → Decision
 numberOf f y = onNumber y (testOf f)
 
 abbrev pub onNumbers : NumberTask → Datum → Datum → Decision
-onNumbers (OnOne f) y x = decided 1 (numberOf f y)
-onNumbers (OnTwo f) y x = decided 2 (numbersOf f y x)
+onNumbers (OnOne f) y x = numberOf f y
+onNumbers (OnTwo f) y x = numbersOf f y x
 
 -- ── two labels ──
 
@@ -79,34 +80,34 @@ labelOf (Number n) = record { secrecy = 0; integrity = 0 }
 labelOf (Labelled l) = l
 labelOf (Handle h p) = record { secrecy = 0; integrity = 0 }
 
-abbrev pub pairOf : Pair → Label → Label → Effect
+abbrev pub pairOf : Pair → Label → Label → Decision
 pairOf Flowing m l = bitOf (flows l m)
-pairOf Joining m l = GivesLabel JoinOf
-pairOf Meeting m l = GivesLabel MeetOf
+pairOf Joining m l = decided 2 (GivesPair JoinOf)
+pairOf Meeting m l = decided 2 (GivesPair MeetOf)
 
-abbrev pub withLabel : Datum → (Label → Effect) → Effect
+abbrev pub withLabel : Datum → (Label → Decision) → Decision
 withLabel (Number n) k = faulty 22
 withLabel (Labelled l) k = k l
 withLabel (Handle h p) k = faulty 22
 
-abbrev pub labelsOf : Pair → Datum → Datum → Effect
+abbrev pub labelsOf : Pair → Datum → Datum → Decision
 labelsOf f y x = withLabel y (λ m. withLabel x (λ l. pairOf f m l))
 
 -- ── the instructions: h values are on the stack, f frames are held ──
 
 -- 20
 abbrev pub shortOf : ℕ → ℕ → Plan → Plan
-shortOf h k p = cond (ltb h k) (Do (decided k (faulty 20))) p
+shortOf h k p = cond (ltb h k) (Do (faulty 20)) p
 
 -- 21
 abbrev pub pushOf : ℕ → Effect → Plan
-pushOf h e = cond (ltb 31 h) (Do (decided 0 (faulty 21))) (Do (decided 0 e))
+pushOf h e = cond (ltb 31 h) (Do (faulty 21)) (Do (decided 0 e))
 
 abbrev pub tryOf : ℕ → ℕ → ℕ → Plan
-tryOf h f t = cond (ltb 30 h) (Do (decided 0 (faulty 21))) (cond (ltb f 8) (Do (decided 0 (Tries t))) (Do (decided 0 (faulty 29))))
+tryOf h f t = cond (ltb 30 h) (Do (faulty 21)) (cond (ltb f 8) (Do (decided 0 (Tries t))) (Do (faulty 29)))
 
 abbrev pub doneOf : ℕ → Plan
-doneOf f = cond (eqb f 0) (Do (decided 0 (faulty 29))) (Do (decided 0 Leaves))
+doneOf f = cond (eqb f 0) (Do (faulty 29)) (Do (decided 0 Leaves))
 
 abbrev pub inputOf : List ℕ → ℕ → Effect
 inputOf rs i = cond (ltb i (count rs)) (GivesHandle (kindOf (byte rs (6 * i))) i) (Gives 0)

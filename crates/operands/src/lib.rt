@@ -9,7 +9,7 @@ ghost use Prim.Native.Nat.{_^_, _<_};
 ghost use lib.ListN.{length, getD};
 ghost use Rattle.model.specs.Inputs.{kindOf};
 ghost use Rattle.model.specs.Words.{labelIn};
-ghost use Rattle.operands.specs.Plans.{decided, bitOf, arithOf, numbersOf, testOf, numberOf, onNumbers, labelOf, pairOf, labelsOf, shortOf, pushOf, tryOf, doneOf, inputOf, planOf};
+ghost use Rattle.operands.specs.Plans.{decided, faulty, bitOf, arithOf, numbersOf, testOf, numberOf, onNumbers, labelOf, pairOf, labelsOf, shortOf, pushOf, tryOf, doneOf, inputOf, planOf};
 
 // Where a label lies that is to be pushed.
 pub enum Origin {
@@ -17,11 +17,14 @@ pub enum Origin {
     File(usize),
     Current,
     Clearance,
-    // of the two labels on top
-    Join,
-    Meet,
     // of the record at a place
     Record(usize),
+}
+
+// What is made of the two labels on top.
+pub enum Both {
+    Join,
+    Meet,
 }
 
 // What a fault raises the label by: nothing, or the label of the record at a place.
@@ -30,7 +33,7 @@ pub enum By {
     Record(usize),
 }
 
-// What the run state has to take over: small words only. All but the two faults drop the operands first.
+// What the run state has to take over, its operands dropped: small words only.
 pub enum Effect {
     // what raises the label, code, number
     Fault(By, u32, u32),
@@ -39,6 +42,7 @@ pub enum Effect {
     Number(u32),
     Handle(Kind, usize),
     Label(Origin),
+    Pair(Both),
     Get(usize),
     Set(usize),
     Try(usize),
@@ -57,7 +61,7 @@ pub enum Effect {
     Block(usize, usize, usize),
 }
 
-// How many operands an instruction takes, and what it does.
+// How many operands are dropped, all of them there, and what is done then. A fault drops none.
 pub struct Decision {
     pub takes: usize,
     pub effect: Effect,
@@ -127,65 +131,73 @@ pub fn decides(takes: usize, effect: Effect) -> Decision
     Decision { takes, effect }
 }
 
+// A fault that raises no label, with number 0.
+pub fn faulty(code: u32) -> Decision
+    ensures { λ r. ⌜ r ≡ faulty code ⌝ }
+{
+    decides(0, Effect::Fault(By::None, code, 0))
+}
+
 // ---- numbers
 
-fn bit(b: bool) -> Effect
+// 1 or 0, for two operands.
+fn bit(b: bool) -> Decision
     ensures { λ r. ⌜ r ≡ bitOf b ⌝ }
 {
     if b {
-        return Effect::Number(1);
+        return decides(2, Effect::Number(1));
     }
-    Effect::Number(0)
+    decides(2, Effect::Number(0))
 }
 
-fn computed(f: Arith, y: u32, x: u32) -> Effect
+fn computed(f: Arith, y: u32, x: u32) -> Decision
     ensures { λ r. ⌜ r ≡ arithOf f y x ⌝ }
 {
     match f {
-        Arith::Add => Effect::Number(std::num::wrapping_add_u32(x, y)),
-        Arith::Sub => Effect::Number(std::num::wrapping_sub_u32(x, y)),
+        Arith::Add => decides(2, Effect::Number(std::num::wrapping_add_u32(x, y))),
+        Arith::Sub => decides(2, Effect::Number(std::num::wrapping_sub_u32(x, y))),
         Arith::Less => bit(x < y),
         Arith::Same => bit(x == y),
     }
 }
 
 // ADD, SUB, LESS, SAME.
-fn numbers(f: Arith, y: Datum, x: Datum) -> Effect
+fn numbers(f: Arith, y: Datum, x: Datum) -> Decision
     ensures { λ r. ⌜ r ≡ numbersOf f y x ⌝ }
 {
     match y {
         Datum::Number(b) => match x {
             Datum::Number(a) => computed(f, b, a),
-            Datum::Label(_) => Effect::Fault(By::None, 22, 0),
-            Datum::Handle(_, _) => Effect::Fault(By::None, 22, 0),
+            Datum::Label(_) => faulty(22),
+            Datum::Handle(_, _) => faulty(22),
         },
-        Datum::Label(_) => Effect::Fault(By::None, 22, 0),
-        Datum::Handle(_, _) => Effect::Fault(By::None, 22, 0),
+        Datum::Label(_) => faulty(22),
+        Datum::Handle(_, _) => faulty(22),
     }
 }
 
-fn tested(f: Test, n: u32) -> Effect
+fn tested(f: Test, n: u32) -> Decision
     ensures { λ r. ⌜ r ≡ testOf f n ⌝ }
 {
     match f {
         Test::Branch(t) => {
             if n == 0 {
-                return Effect::Jump(t);
+                return decides(1, Effect::Jump(t));
             }
-            Effect::Drop
+            decides(1, Effect::Drop)
         }
-        Test::Throw => Effect::Fault(By::None, 30, n),
+        Test::Throw => decides(0, Effect::Fault(By::None, 30, n)),
     }
 }
 
 // IFZ, THROW.
-fn number(f: Test, y: Datum) -> Effect
+fn number(f: Test, y: Datum) -> Decision
     ensures { λ r. ⌜ r ≡ numberOf f y ⌝ }
 {
     match y {
         Datum::Number(n) => tested(f, n),
-        Datum::Label(_) => Effect::Fault(By::None, 22, 0),
-        Datum::Handle(_, _) => Effect::Fault(By::None, 22, 0),
+        Datum::Label(_) => faulty(22),
+        Datum::Handle(_, _) => faulty(22),
     }
 }
 
@@ -194,8 +206,8 @@ pub fn on_numbers(t: NumberTask, y: Datum, x: Datum) -> Decision
     ensures { λ r. ⌜ r ≡ onNumbers t y x ⌝ }
 {
     match t {
-        NumberTask::Test(f) => decides(1, number(f, y)),
-        NumberTask::Arith(f) => decides(2, numbers(f, y, x)),
+        NumberTask::Test(f) => number(f, y),
+        NumberTask::Arith(f) => numbers(f, y, x),
     }
 }
 
@@ -218,28 +230,28 @@ pub fn label_of(d: Datum) -> Label
     }
 }
 
-fn of_pair(f: Pair, m: Label, l: Label) -> Effect
+fn of_pair(f: Pair, m: Label, l: Label) -> Decision
     ensures { λ r. ⌜ r ≡ pairOf f m l ⌝ }
 {
     match f {
         Pair::Flows => bit(labels::flows(l, m)),
-        Pair::Join => Effect::Label(Origin::Join),
-        Pair::Meet => Effect::Label(Origin::Meet),
+        Pair::Join => decides(2, Effect::Pair(Both::Join)),
+        Pair::Meet => decides(2, Effect::Pair(Both::Meet)),
     }
 }
 
 // FLOWS, JOIN, MEET.
-pub fn two_labels(f: Pair, y: Datum, x: Datum) -> Effect
+pub fn two_labels(f: Pair, y: Datum, x: Datum) -> Decision
     ensures { λ r. ⌜ r ≡ labelsOf f y x ⌝ }
 {
     match y {
-        Datum::Number(_) => Effect::Fault(By::None, 22, 0),
+        Datum::Number(_) => faulty(22),
         Datum::Label(m) => match x {
-            Datum::Number(_) => Effect::Fault(By::None, 22, 0),
+            Datum::Number(_) => faulty(22),
             Datum::Label(l) => of_pair(f, m, l),
-            Datum::Handle(_, _) => Effect::Fault(By::None, 22, 0),
+            Datum::Handle(_, _) => faulty(22),
         },
-        Datum::Handle(_, _) => Effect::Fault(By::None, 22, 0),
+        Datum::Handle(_, _) => faulty(22),
     }
 }
 
@@ -298,7 +310,7 @@ fn short(height: usize, takes: usize, p: Plan) -> Plan
     ensures { λ r. ⌜ r ≡ shortOf height takes p ⌝ }
 {
     if height < takes {
-        return Plan::Do(decides(takes, Effect::Fault(By::None, 20, 0)));
+        return Plan::Do(faulty(20));
     }
     p
 }
@@ -308,7 +320,7 @@ fn push(height: usize, e: Effect) -> Plan
     ensures { λ r. ⌜ r ≡ pushOf height e ⌝ }
 {
     if 31 < height {
-        return Plan::Do(decides(0, Effect::Fault(By::None, 21, 0)));
+        return Plan::Do(faulty(21));
     }
     Plan::Do(decides(0, e))
 }
@@ -318,19 +330,19 @@ fn try_frame(height: usize, frames: usize, h: usize) -> Plan
     ensures { λ r. ⌜ r ≡ tryOf height frames h ⌝ }
 {
     if 30 < height {
-        return Plan::Do(decides(0, Effect::Fault(By::None, 21, 0)));
+        return Plan::Do(faulty(21));
     }
     if frames < 8 {
         return Plan::Do(decides(0, Effect::Try(h)));
     }
-    Plan::Do(decides(0, Effect::Fault(By::None, 29, 0)))
+    Plan::Do(faulty(29))
 }
 
 fn done(frames: usize) -> Plan
     ensures { λ r. ⌜ r ≡ doneOf frames ⌝ }
 {
     if frames == 0 {
-        return Plan::Do(decides(0, Effect::Fault(By::None, 29, 0)));
+        return Plan::Do(faulty(29));
     }
     Plan::Do(decides(0, Effect::Done))
 }

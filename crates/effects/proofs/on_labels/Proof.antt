@@ -4,7 +4,7 @@ use Rattle.effects.proofs.on_labels.Statement.{statement}
 use Rattle.effects.proofs.on_labels.Tie as tie
 
 returns : tie.Need-returns
-returns c = let a : tie.After-two-labels = search in let t : tie.After-t = search in rw (t .t .given .1) (rw (a .two-labels .ensures) at (c .decides .ensures))
+returns c = let t : tie.After-t = search in rw (t .t .given .1) (c .two-labels .ensures)
 
 returns-2 : tie.Need-returns-2
 returns-2 c = let t : tie.After-t2 = search in rw (t .t2 .given .1) (c .on-label .ensures)
@@ -17,7 +17,6 @@ on-labels-spec =
     tie.close
     (tie.spec
     (λ c. search needs)
-    (λ c κs. search needs)
     (λ c κs. search needs)
     (λ c. search needs)
     (λ c κs. search needs)

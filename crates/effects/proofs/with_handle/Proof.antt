@@ -5,20 +5,20 @@ use Rattle.effects.proofs.with_handle.Statement.{statement}
 use Rattle.effects.proofs.with_handle.Tie as tie
 
 returns : tie.Need-returns
-returns c = let i : tie.Then1 = search in let k : tie.After-is-kind = search in let t : tie.After-f = search in rw (t .f .given .1, ← k .is-kind .ensures, not-true (k .is-kind .result) (i .if1 .taken)) (c .decides .ensures)
+returns c = let i : tie.Then1 = search in let k : tie.After-is-kind = search in let t : tie.After-f = search in rw (t .f .given .1, ← k .is-kind .ensures, not-true (k .is-kind .result) (i .if1 .taken)) (c .faulty .ensures)
 
 returns-2 : tie.Need-returns-2
-returns-2 c = let o : tie.After-open = search in let i : tie.Else1 = search in let k : tie.After-is-kind = search in let t : tie.After-f = search in
-    rw (t .f .given .1, ← k .is-kind .ensures, not-false (k .is-kind .result) (i .if1 .left)) (rw (o .«open» .ensures) at (c .decides2 .ensures))
+returns-2 c = let i : tie.Else1 = search in let k : tie.After-is-kind = search in let t : tie.After-f = search in
+    rw (t .f .given .1, ← k .is-kind .ensures, not-false (k .is-kind .result) (i .if1 .left)) (c .«open» .ensures)
 
 returns-3 : tie.Need-returns-3
-returns-3 c = let a : tie.After-label-of = search in let t : tie.After-enum-told = search in rw (t .enum-told .given .1) (rw (a .label-of .ensures) at (c .decides3 .ensures))
+returns-3 c = let t : tie.After-enum-told = search in rw (t .enum-told .given .1) (c .label-of .ensures)
 
 returns-4 : tie.Need-returns-4
-returns-4 c = let k : tie.After-enum-told3 = search in let t : tie.After-enum-told2 = search in rw (t .enum-told2 .given .1, k .enum-told3 .given .1) (c .decides4 .ensures)
+returns-4 c = let k : tie.After-enum-told3 = search in let t : tie.After-enum-told2 = search in rw (t .enum-told2 .given .1, k .enum-told3 .given .1) (c .faulty2 .ensures)
 
 returns-5 : tie.Need-returns-5
-returns-5 c = let w : tie.After-write = search in let k : tie.After-enum-told4 = search in let t : tie.After-enum-told2 = search in rw (t .enum-told2 .given .1, k .enum-told4 .given .1) (rw (w .write .ensures) at (c .decides5 .ensures))
+returns-5 c = let k : tie.After-enum-told4 = search in let t : tie.After-enum-told2 = search in rw (t .enum-told2 .given .1, k .enum-told4 .given .1) (c .write .ensures)
 
 pub with-handle-spec : {M : Type 1} → statement M
 with-handle-spec =
@@ -29,15 +29,12 @@ with-handle-spec =
     (λ c κs. search needs)
     returns
     (λ c κs. search needs)
-    (λ c κs. search needs)
     (λ c. search needs)
-    (λ c κs. search needs)
     (λ c κs. search needs)
     (λ c. search needs)
     (λ c. search needs)
     (λ c κs. search needs)
     (λ c. search needs)
-    (λ c κs. search needs)
     (λ c κs. search needs)
     returns-2
     returns-3

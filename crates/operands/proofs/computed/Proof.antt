@@ -6,10 +6,10 @@ use Rattle.operands.proofs.computed.Statement.{statement}
 use Rattle.operands.proofs.computed.Tie as tie
 
 returns : tie.Need-returns
-returns c = let t : tie.After-enum-told = search in rw (t .enum-told .given .1, c .wrapping-add-u32 .ensures)
+returns c = let a : tie.After-wrapping-add-u32 = search in let t : tie.After-enum-told = search in rw (t .enum-told .given .1, c .decides .ensures, a .wrapping-add-u32 .ensures)
 
 returns-2 : tie.Need-returns-2
-returns-2 c = let t : tie.After-enum-told2 = search in let s : tie.Start = search in rw (t .enum-told2 .given .1, wrapped (s .args .x) (s .args .y) (c .wrapping-sub-u32 .result) (omega arith) (omega arith) (omega arith) (c .wrapping-sub-u32 .ensures))
+returns-2 c = let a : tie.After-wrapping-sub-u32 = search in let t : tie.After-enum-told2 = search in let s : tie.Start = search in rw (t .enum-told2 .given .1, c .decides2 .ensures, wrapped (s .args .x) (s .args .y) (a .wrapping-sub-u32 .result) (omega arith) (omega arith) (omega arith) (a .wrapping-sub-u32 .ensures))
 
 returns-3 : tie.Need-returns-3
 returns-3 c = let t : tie.After-enum-told3 = search in rw (t .enum-told3 .given .1) (c .bit .ensures)
@@ -23,7 +23,9 @@ computed-spec =
     (tie.spec
     (λ c. search needs)
     (λ c κs. search needs)
+    (λ c κs. search needs)
     (λ c. search needs)
+    (λ c κs. search needs)
     (λ c κs. search needs)
     (λ c. search needs)
     (λ c κs. search needs)

@@ -5,10 +5,10 @@ use Rattle.operands.proofs.push.Statement.{statement}
 use Rattle.operands.proofs.push.Tie as tie
 
 returns : tie.Need-returns
-returns c = let i : tie.Then1 = search in rw (lt-ltb _ _ (i .if1 .taken), c .decides .ensures)
+returns c = let i : tie.Then1 = search in rw (lt-ltb _ _ (i .if1 .taken), c .faulty .ensures)
 
 returns-2 : tie.Need-returns-2
-returns-2 c = let i : tie.Else1 = search in rw (le-ltb _ _ (i .if1 .left), c .decides2 .ensures)
+returns-2 c = let i : tie.Else1 = search in rw (le-ltb _ _ (i .if1 .left), c .decides .ensures)
 
 pub push-spec : {M : Type 1} → statement M
 push-spec = tie.close (tie.spec (λ c κs. search needs) returns (λ c κs. search needs) returns-2)

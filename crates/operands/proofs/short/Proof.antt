@@ -5,7 +5,7 @@ use Rattle.operands.proofs.short.Statement.{statement}
 use Rattle.operands.proofs.short.Tie as tie
 
 returns : tie.Need-returns
-returns c = let i : tie.Then1 = search in rw (lt-ltb _ _ (i .if1 .taken), c .decides .ensures)
+returns c = let i : tie.Then1 = search in rw (lt-ltb _ _ (i .if1 .taken), c .faulty .ensures)
 
 returns-2 : tie.Need-returns-2
 returns-2 c = rw (le-ltb _ _ (c .if1 .left))

@@ -4,31 +4,35 @@ use Rattle.operands.proofs.two_labels.Statement.{statement}
 use Rattle.operands.proofs.two_labels.Tie as tie
 
 returns : tie.Need-returns
-returns c = rw (c .enum-told .given .1)
+returns c = let y : tie.After-enum-told = search in rw (y .enum-told .given .1) (c .faulty .ensures)
 
 returns-2 : tie.Need-returns-2
-returns-2 c = let y : tie.After-y = search in rw (y .y .given .1, c .enum-told2 .given .1)
+returns-2 c = let x : tie.After-enum-told2 = search in let y : tie.After-y = search in rw (y .y .given .1, x .enum-told2 .given .1) (c .faulty2 .ensures)
 
 returns-3 : tie.Need-returns-3
 returns-3 c = let x : tie.After-x = search in let y : tie.After-y = search in rw (y .y .given .1, x .x .given .1) (c .of-pair .ensures)
 
 returns-4 : tie.Need-returns-4
-returns-4 c = let y : tie.After-y = search in rw (y .y .given .1, c .enum-told3 .given .1)
+returns-4 c = let x : tie.After-enum-told3 = search in let y : tie.After-y = search in rw (y .y .given .1, x .enum-told3 .given .1) (c .faulty3 .ensures)
 
 returns-5 : tie.Need-returns-5
-returns-5 c = rw (c .enum-told4 .given .1)
+returns-5 c = let y : tie.After-enum-told4 = search in rw (y .enum-told4 .given .1) (c .faulty4 .ensures)
 
 pub two-labels-spec : {M : Type 1} → statement M
 two-labels-spec =
     tie.close
     (tie.spec
     (λ c. search needs)
-    (λ c. search needs)
+    (λ c κs. search needs)
     (λ c. search needs)
     (λ c. search needs)
     (λ c κs. search needs)
     (λ c. search needs)
+    (λ c κs. search needs)
     (λ c. search needs)
+    (λ c κs. search needs)
+    (λ c. search needs)
+    (λ c κs. search needs)
     returns
     returns-2
     returns-3

@@ -18,6 +18,7 @@ use Rattle.effects.proofs.conclude.Reads as conclude-reads
 use Rattle.effects.proofs.keep.Reads as keep-reads
 use Rattle.effects.proofs.label_from.Reads as label-from-reads
 use Rattle.effects.proofs.on_labels.Reads as on-labels-reads
+use Rattle.effects.proofs.paired.Reads as paired-reads
 use Rattle.effects.proofs.raised.Reads as raised-reads
 use Rattle.machine.proofs.State.account.Reads as account-reads
 use Rattle.machine.proofs.State.caught.Reads as caught-reads
@@ -84,24 +85,26 @@ module _ (t : ℕ) where
     account-reads.Learnt,
     on-labels-reads.Asked,
     on-labels-reads.Learnt,
+    pop-reads.Asked,
+    pop-reads.Learnt,
     raised-reads.Asked,
     raised-reads.Learnt,
     end-reads.Asked,
     end-reads.Learnt,
     caught-reads.Asked,
     caught-reads.Learnt,
-    pop-reads.Asked,
-    pop-reads.Learnt,
     number-reads.Asked,
     number-reads.Learnt,
     label-from-reads.Asked,
     label-from-reads.Learnt,
+    label-in-reads.Asked,
+    label-in-reads.Learnt,
+    paired-reads.Asked,
+    paired-reads.Learnt,
     present-reads.Asked,
     present-reads.Learnt,
     same-reads.Asked,
     same-reads.Learnt,
-    label-in-reads.Asked,
-    label-in-reads.Learnt,
     raise-reads.Asked,
     raise-reads.Learnt,
     keep-reads.Asked,
@@ -121,7 +124,7 @@ module _ (t : ℕ) where
   )
 
   -- its places: the entry, the loop's head, a turn that goes on with its step paid, its instruction read, its plan made, its
-  -- decision taken; then each effect's
+  -- decision taken, its operands dropped; then each effect's
 
   abbrev pub Start : Type 0
   Start = step-lts.Start calls (step-at t) step.Post Inv-loop μ-loop
@@ -153,6 +156,9 @@ module _ (t : ℕ) where
   abbrev pub Here : Type 0
   Here = step-lts.At-match-came calls (step-at t) step.Post Inv-loop μ-loop
 
+  abbrev pub Dropped : Type 0
+  Dropped = step-lts.After-pop calls (step-at t) step.Post Inv-loop μ-loop
+
   abbrev pub Faults : Type 0
   Faults = step-lts.After-e calls (step-at t) step.Post Inv-loop μ-loop
 
@@ -169,7 +175,7 @@ module _ (t : ℕ) where
   Ends = step-lts.After-enum-told3 calls (step-at t) step.Post Inv-loop μ-loop
 
   abbrev pub Blocks : Type 0
-  Blocks = step-lts.After-e12 calls (step-at t) step.Post Inv-loop μ-loop
+  Blocks = step-lts.After-e13 calls (step-at t) step.Post Inv-loop μ-loop
 
   abbrev pub Drops : Type 0
   Drops = step-lts.After-enum-told calls (step-at t) step.Post Inv-loop μ-loop
@@ -186,14 +192,17 @@ module _ (t : ℕ) where
   abbrev pub Labels : Type 0
   Labels = step-lts.After-e5 calls (step-at t) step.Post Inv-loop μ-loop
 
+  abbrev pub Pairs : Type 0
+  Pairs = step-lts.After-e6 calls (step-at t) step.Post Inv-loop μ-loop
+
   abbrev pub Gets : Type 0
-  Gets = step-lts.After-e6 calls (step-at t) step.Post Inv-loop μ-loop
+  Gets = step-lts.After-e7 calls (step-at t) step.Post Inv-loop μ-loop
 
   abbrev pub Sets : Type 0
-  Sets = step-lts.After-e7 calls (step-at t) step.Post Inv-loop μ-loop
+  Sets = step-lts.After-e8 calls (step-at t) step.Post Inv-loop μ-loop
 
   abbrev pub Tries : Type 0
-  Tries = step-lts.After-e8 calls (step-at t) step.Post Inv-loop μ-loop
+  Tries = step-lts.After-e9 calls (step-at t) step.Post Inv-loop μ-loop
 
   abbrev pub Leaves : Type 0
   Leaves = step-lts.After-enum-told2 calls (step-at t) step.Post Inv-loop μ-loop
@@ -205,13 +214,13 @@ module _ (t : ℕ) where
   Lowers = step-lts.After-enum-told5 calls (step-at t) step.Post Inv-loop μ-loop
 
   abbrev pub Makes : Type 0
-  Makes = step-lts.After-e9 calls (step-at t) step.Post Inv-loop μ-loop
+  Makes = step-lts.After-e10 calls (step-at t) step.Post Inv-loop μ-loop
 
   abbrev pub Writes : Type 0
-  Writes = step-lts.After-e10 calls (step-at t) step.Post Inv-loop μ-loop
+  Writes = step-lts.After-e11 calls (step-at t) step.Post Inv-loop μ-loop
 
   abbrev pub Opens : Type 0
-  Opens = step-lts.After-e11 calls (step-at t) step.Post Inv-loop μ-loop
+  Opens = step-lts.After-e12 calls (step-at t) step.Post Inv-loop μ-loop
 
   abbrev pub Concluded : Type 0
   Concluded = step-lts.After-conclude calls (step-at t) step.Post Inv-loop μ-loop
@@ -228,6 +237,15 @@ module _ (t : ℕ) where
   abbrev pub Named : Type 0
   Named = step-lts.After-label-from calls (step-at t) step.Post Inv-loop μ-loop
 
+  abbrev pub Upper : Type 0
+  Upper = step-lts.After-label-in calls (step-at t) step.Post Inv-loop μ-loop
+
+  abbrev pub Below : Type 0
+  Below = step-lts.After-label-in2 calls (step-at t) step.Post Inv-loop μ-loop
+
+  abbrev pub Both : Type 0
+  Both = step-lts.After-paired calls (step-at t) step.Post Inv-loop μ-loop
+
   abbrev pub Local : Type 0
   Local = step-lts.After-least3 calls (step-at t) step.Post Inv-loop μ-loop
 
@@ -238,16 +256,16 @@ module _ (t : ℕ) where
   Copied = step-lts.After-same calls (step-at t) step.Post Inv-loop μ-loop
 
   abbrev pub Raising : Type 0
-  Raising = step-lts.After-label-in calls (step-at t) step.Post Inv-loop μ-loop
+  Raising = step-lts.After-label-in3 calls (step-at t) step.Post Inv-loop μ-loop
 
   abbrev pub Risen : Type 0
   Risen = step-lts.After-raise calls (step-at t) step.Post Inv-loop μ-loop
 
   abbrev pub Lowering : Type 0
-  Lowering = step-lts.After-label-in2 calls (step-at t) step.Post Inv-loop μ-loop
+  Lowering = step-lts.After-label-in4 calls (step-at t) step.Post Inv-loop μ-loop
 
   abbrev pub Making : Type 0
-  Making = step-lts.After-label-in3 calls (step-at t) step.Post Inv-loop μ-loop
+  Making = step-lts.After-label-in5 calls (step-at t) step.Post Inv-loop μ-loop
 
   abbrev pub Kept : Type 0
   Kept = step-lts.After-keep calls (step-at t) step.Post Inv-loop μ-loop
@@ -265,7 +283,7 @@ module _ (t : ℕ) where
   Open-risen = step-lts.After-raise2 calls (step-at t) step.Post Inv-loop μ-loop
 
   abbrev pub Bound : Type 0
-  Bound = step-lts.After-label-in4 calls (step-at t) step.Post Inv-loop μ-loop
+  Bound = step-lts.After-label-in6 calls (step-at t) step.Post Inv-loop μ-loop
 
   abbrev pub Bodied : Type 0
   Bodied = step-lts.After-inside calls (step-at t) step.Post Inv-loop μ-loop
