@@ -110,9 +110,6 @@ read-at l i n e = test (ltb i (suc n)) refl where
   test true t = ap (λ (j : ℕ). getD l j (number 0) .datum) (let h = ltb-true i (suc n) t in omega arith)
   test false t = let h : length l ≤ i = (let k = ltb-false i (suc n) t in omega arith) in ap (λ (v : Value). v .datum) (sym (List·getD-eq-default l (number 0) h))
 
-pub operand-at : (s : State) (j : ℕ) → Ok s → presentOf (s .top + j) 32 (getD (s .stack) (min (s .top + j) 31) (number 0)) ≡ getD (control s .stack) j (number 0) .datum
-operand-at s j o = read-at (s .stack) (s .top + j) 31 (o .stack .size) ∙ ap (λ (v : Value). v .datum) (sym (getD-drop (s .top) (s .stack) j (number 0)))
-
 -- a value read at the least of its place and 31, where it is there
 pub operand-there : (s : State) (i j : ℕ) → Ok s → i ≡ min (s .top + j) 31 → j + 1 ≤ length (control s .stack) → getD (s .stack) i (number 0) .datum ≡ getD (control s .stack) j (number 0) .datum
 operand-there s i j o e h =
