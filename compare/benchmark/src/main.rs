@@ -20,6 +20,9 @@ const IMPLEMENTATIONS: &[(&str, Read)] = &[
 const ROUNDS: usize = 200;
 /// Long enough for the clock, short enough for a round to be undisturbed.
 const ROUND: Duration = Duration::from_micros(500);
+/// Rounds go through this many places of the stack, so that no figure hangs on where it happens to lie: a copy waits
+/// where its two ends are some multiple of 4 KB apart.
+const PLACES: usize = 40;
 
 fn main() {
     println!("best of {ROUNDS} rounds; stack in bytes touched");
@@ -49,13 +52,25 @@ fn best_times(load: &Load) -> Vec<f64> {
     let units = f64::from(load.units());
     let repeats: Vec<u32> = IMPLEMENTATIONS.iter().map(|&(_, read)| repeats(load, read)).collect();
     let mut best = vec![f64::INFINITY; IMPLEMENTATIONS.len()];
-    for _ in 0..ROUNDS {
+    for round in 0..ROUNDS {
         for (at, &(_, read)) in IMPLEMENTATIONS.iter().enumerate() {
-            let time = time(load, read, repeats[at]).as_nanos() as f64;
-            best[at] = best[at].min(time / f64::from(repeats[at]) / units);
+            let mut taken = Duration::ZERO;
+            deeper(round % PLACES, &mut || taken = time(load, read, repeats[at]));
+            best[at] = best[at].min(taken.as_nanos() as f64 / f64::from(repeats[at]) / units);
         }
     }
     best
+}
+
+/// Does the work so many frames further down the stack.
+#[inline(never)]
+fn deeper(frames: usize, work: &mut dyn FnMut()) {
+    let frame = black_box([0u8; 64]);
+    match frames {
+        0 => work(),
+        _ => deeper(frames - 1, work),
+    }
+    black_box(frame);
 }
 
 /// How many reads fill a round.

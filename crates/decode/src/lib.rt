@@ -1,8 +1,8 @@
 // Instruction decoding, for the file's checks and for the machine.
 ghost use mathlib.Core.Path.{_≡_};
-ghost use Prim.Native.Nat.{_<_, _^_};
+ghost use Prim.Native.Nat.{_+_, _<_, _^_};
 ghost use lib.ListN.{length, getD};
-ghost use Rattle.model.specs.declared.Instr.the-variants.{End};
+ghost use Rattle.model.specs.declared.Instr.the-variants.{End, Block};
 ghost use Rattle.model.specs.Decoding.{byte, u16, u32, known, size, instrs, fetch, after};
 use model::Instr;
 
@@ -78,6 +78,18 @@ pub fn target_at(s: &[u8], i: usize) -> usize
     u16_at(s, i) as usize
 }
 
+// A BLOCK whose operands begin at i: target, steps, places.
+fn block_at(code: &[u8], i: usize) -> Instr
+    requires { ⌜ i < 2 ^ 32 ⌝ }
+    ensures { λ r. ⌜ r ≡ Block (u16 (now (code .entry)) i) (u16 (now (code .entry)) (i + 2)) (byte (now (code .entry)) (i + 4)) ⌝ }
+{
+    Instr::Block(
+        target_at(code, i),
+        target_at(code, i + 2),
+        index_at(code, i + 4),
+    )
+}
+
 // The instruction with opcode `op` whose operands stand at `i`.
 fn instr_at(code: &[u8], op: u8, i: usize) -> Instr
     requires { ⌜ i < 2 ^ 32 ⌝ }
@@ -109,11 +121,7 @@ fn instr_at(code: &[u8], op: u8, i: usize) -> Instr
         22 => Instr::New,
         23 => Instr::Read,
         24 => Instr::Write,
-        25 => Instr::Block(
-            target_at(code, i),
-            target_at(code, i + 2),
-            index_at(code, i + 4),
-        ),
+        25 => block_at(code, i),
         26 => Instr::Try(target_at(code, i)),
         27 => Instr::Done,
         28 => Instr::Throw,

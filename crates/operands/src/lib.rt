@@ -37,6 +37,7 @@ pub enum By {
 pub enum Effect {
     // what raises the label, code, number
     Fault(By, u32, u32),
+    // nothing more
     Drop,
     Jump(usize),
     Number(u32),
@@ -50,6 +51,7 @@ pub enum Effect {
     End,
     // by the label on top
     Raise,
+    // to the label on top
     Lower,
     // a record at the next place, under the label on top, of the value below it
     Make(Kind),
@@ -315,6 +317,18 @@ fn short(height: usize, takes: usize, p: Plan) -> Plan
     p
 }
 
+fn label_plan(height: usize, takes: usize, f: OnLabel) -> Plan
+    ensures { λ r. ⌜ r ≡ shortOf height takes (Plan.Labels (LabelTask.Label f)) ⌝ }
+{
+    short(height, takes, Plan::Labels(LabelTask::Label(f)))
+}
+
+fn handle_plan(height: usize, takes: usize, f: OnHandle) -> Plan
+    ensures { λ r. ⌜ r ≡ shortOf height takes (Plan.Labels (LabelTask.Handle f)) ⌝ }
+{
+    short(height, takes, Plan::Labels(LabelTask::Handle(f)))
+}
+
 // Fault 21.
 fn push(height: usize, e: Effect) -> Plan
     ensures { λ r. ⌜ r ≡ pushOf height e ⌝ }
@@ -366,38 +380,18 @@ pub fn plan_of(i: Instr, height: usize, frames: usize, records: &[u8]) -> Plan
         Instr::Ifz(t) => short(height, 1, Plan::Numbers(NumberTask::Test(Test::Branch(t)))),
         Instr::Cur => push(height, Effect::Label(Origin::Current)),
         Instr::Clr => push(height, Effect::Label(Origin::Clearance)),
-        Instr::Raise => short(height, 1, Plan::Labels(LabelTask::Label(OnLabel::Raise))),
-        Instr::Lower => short(height, 1, Plan::Labels(LabelTask::Label(OnLabel::Lower))),
+        Instr::Raise => label_plan(height, 1, OnLabel::Raise),
+        Instr::Lower => label_plan(height, 1, OnLabel::Lower),
         Instr::Flows => short(height, 2, Plan::Labels(LabelTask::Pair(Pair::Flows))),
         Instr::Join => short(height, 2, Plan::Labels(LabelTask::Pair(Pair::Join))),
         Instr::Meet => short(height, 2, Plan::Labels(LabelTask::Pair(Pair::Meet))),
-        Instr::Seal => short(
-            height,
-            2,
-            Plan::Labels(LabelTask::Label(OnLabel::Make(Kind::Sealed))),
-        ),
-        Instr::Open => short(
-            height,
-            1,
-            Plan::Labels(LabelTask::Handle(OnHandle::Open(Kind::Sealed))),
-        ),
-        Instr::Labof => short(height, 1, Plan::Labels(LabelTask::Handle(OnHandle::Label))),
-        Instr::New => short(
-            height,
-            2,
-            Plan::Labels(LabelTask::Label(OnLabel::Make(Kind::Reference))),
-        ),
-        Instr::Read => short(
-            height,
-            1,
-            Plan::Labels(LabelTask::Handle(OnHandle::Open(Kind::Reference))),
-        ),
-        Instr::Write => short(height, 2, Plan::Labels(LabelTask::Handle(OnHandle::Write))),
-        Instr::Block(t, n, k) => short(
-            height,
-            1,
-            Plan::Labels(LabelTask::Label(OnLabel::Block(t, n, k))),
-        ),
+        Instr::Seal => label_plan(height, 2, OnLabel::Make(Kind::Sealed)),
+        Instr::Open => handle_plan(height, 1, OnHandle::Open(Kind::Sealed)),
+        Instr::Labof => handle_plan(height, 1, OnHandle::Label),
+        Instr::New => label_plan(height, 2, OnLabel::Make(Kind::Reference)),
+        Instr::Read => handle_plan(height, 1, OnHandle::Open(Kind::Reference)),
+        Instr::Write => handle_plan(height, 2, OnHandle::Write),
+        Instr::Block(t, n, k) => label_plan(height, 1, OnLabel::Block(t, n, k)),
         Instr::Try(h) => try_frame(height, frames, h),
         Instr::Done => done(frames),
         Instr::Throw => short(height, 1, Plan::Numbers(NumberTask::Test(Test::Throw))),

@@ -35,19 +35,15 @@ returns-12 c = let arm : tie.At-match-keys12 = search in rw (arm .match .keys12,
 
 returns-26 : tie.Need-returns-26
 unfolding instrs
-returns-26 c =
-    let arm : tie.At-match-keys26 = search in
-    let target : tie.After-target-at3 = search in
-    let steps : tie.After-target-at4 = search in
-    rw (arm .match .keys26, c .index-at4 .ensures, steps .target-at4 .ensures, target .target-at3 .ensures)
+returns-26 c = let arm : tie.At-match-keys26 = search in rw (arm .match .keys26, c .block-at .ensures)
 
 returns-27 : tie.Need-returns-27
 unfolding instrs
-returns-27 c = let arm : tie.At-match-keys27 = search in rw (arm .match .keys27, c .target-at5 .ensures)
+returns-27 c = let arm : tie.At-match-keys27 = search in rw (arm .match .keys27, c .target-at3 .ensures)
 
 returns-30 : tie.Need-returns-30
 unfolding instrs
-returns-30 c = let arm : tie.At-match-keys30 = search in rw (arm .match .keys30, c .index-at5 .ensures)
+returns-30 c = let arm : tie.At-match-keys30 = search in rw (arm .match .keys30, c .index-at4 .ensures)
 
 returns-31 : tie.Need-returns-31
 unfolding instrs
@@ -61,10 +57,6 @@ unfolding instrs
 instr-at-spec =
     tie.close
     (tie.spec
-    (search needs)
-    (search needs)
-    (search needs)
-    (search needs)
     (search needs)
     (search needs)
     (search needs)

@@ -62,51 +62,51 @@ returns-14 c = let t : tie.After-enum-told8 = search in rw (t .enum-told8 .given
 
 returns-15 : tie.Need-returns-15
 unfolding planOf
-returns-15 c = let t : tie.After-enum-told9 = search in rw (t .enum-told9 .given .1) (c .short9 .ensures)
+returns-15 c = let t : tie.After-enum-told9 = search in rw (t .enum-told9 .given .1) (c .label-plan .ensures)
 
 returns-16 : tie.Need-returns-16
 unfolding planOf
-returns-16 c = let t : tie.After-enum-told10 = search in rw (t .enum-told10 .given .1) (c .short10 .ensures)
+returns-16 c = let t : tie.After-enum-told10 = search in rw (t .enum-told10 .given .1) (c .label-plan2 .ensures)
 
 returns-17 : tie.Need-returns-17
 unfolding planOf
-returns-17 c = let t : tie.After-enum-told11 = search in rw (t .enum-told11 .given .1) (c .short11 .ensures)
+returns-17 c = let t : tie.After-enum-told11 = search in rw (t .enum-told11 .given .1) (c .short9 .ensures)
 
 returns-18 : tie.Need-returns-18
 unfolding planOf
-returns-18 c = let t : tie.After-enum-told12 = search in rw (t .enum-told12 .given .1) (c .short12 .ensures)
+returns-18 c = let t : tie.After-enum-told12 = search in rw (t .enum-told12 .given .1) (c .short10 .ensures)
 
 returns-19 : tie.Need-returns-19
 unfolding planOf
-returns-19 c = let t : tie.After-enum-told13 = search in rw (t .enum-told13 .given .1) (c .short13 .ensures)
+returns-19 c = let t : tie.After-enum-told13 = search in rw (t .enum-told13 .given .1) (c .short11 .ensures)
 
 returns-20 : tie.Need-returns-20
 unfolding planOf
-returns-20 c = let t : tie.After-enum-told14 = search in rw (t .enum-told14 .given .1) (c .short14 .ensures)
+returns-20 c = let t : tie.After-enum-told14 = search in rw (t .enum-told14 .given .1) (c .label-plan3 .ensures)
 
 returns-21 : tie.Need-returns-21
 unfolding planOf
-returns-21 c = let t : tie.After-enum-told15 = search in rw (t .enum-told15 .given .1) (c .short15 .ensures)
+returns-21 c = let t : tie.After-enum-told15 = search in rw (t .enum-told15 .given .1) (c .handle-plan .ensures)
 
 returns-22 : tie.Need-returns-22
 unfolding planOf
-returns-22 c = let t : tie.After-enum-told16 = search in rw (t .enum-told16 .given .1) (c .short16 .ensures)
+returns-22 c = let t : tie.After-enum-told16 = search in rw (t .enum-told16 .given .1) (c .handle-plan2 .ensures)
 
 returns-23 : tie.Need-returns-23
 unfolding planOf
-returns-23 c = let t : tie.After-enum-told17 = search in rw (t .enum-told17 .given .1) (c .short17 .ensures)
+returns-23 c = let t : tie.After-enum-told17 = search in rw (t .enum-told17 .given .1) (c .label-plan4 .ensures)
 
 returns-24 : tie.Need-returns-24
 unfolding planOf
-returns-24 c = let t : tie.After-enum-told18 = search in rw (t .enum-told18 .given .1) (c .short18 .ensures)
+returns-24 c = let t : tie.After-enum-told18 = search in rw (t .enum-told18 .given .1) (c .handle-plan3 .ensures)
 
 returns-25 : tie.Need-returns-25
 unfolding planOf
-returns-25 c = let t : tie.After-enum-told19 = search in rw (t .enum-told19 .given .1) (c .short19 .ensures)
+returns-25 c = let t : tie.After-enum-told19 = search in rw (t .enum-told19 .given .1) (c .handle-plan4 .ensures)
 
 returns-26 : tie.Need-returns-26
 unfolding planOf
-returns-26 c = let t : tie.After-i7 = search in rw (t .i7 .given .1) (c .short20 .ensures)
+returns-26 c = let t : tie.After-i7 = search in rw (t .i7 .given .1) (c .label-plan5 .ensures)
 
 returns-27 : tie.Need-returns-27
 unfolding planOf
@@ -118,7 +118,7 @@ returns-28 c = let t : tie.After-enum-told20 = search in rw (t .enum-told20 .giv
 
 returns-29 : tie.Need-returns-29
 unfolding planOf
-returns-29 c = let t : tie.After-enum-told21 = search in rw (t .enum-told21 .given .1) (c .short21 .ensures)
+returns-29 c = let t : tie.After-enum-told21 = search in rw (t .enum-told21 .given .1) (c .short12 .ensures)
 
 returns-30 : tie.Need-returns-30
 unfolding planOf
