@@ -32,7 +32,7 @@ pub in-locals : (i n : ℕ) → n ≡ min i 15 → n < 16
 in-locals i n e = omega (arith, e)
 
 pub local-fits : {n : ℕ} → n < 16 → Fits w64 (n * 24)
-local-fits h = omega (arith, h)
+local-fits h = value-offset _ (omega (arith, h))
 
 -- ── frames ──
 

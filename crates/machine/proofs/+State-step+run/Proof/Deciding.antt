@@ -91,9 +91,6 @@ module _ (t : ℕ) where
     pub has : {e : Effect} → d here .effect ≡ e → FitsEffect (control now-dropped) (account now-dropped) e
     has q = subst (FitsEffect (control now-dropped) (account now-dropped)) q (applies .fits)
 
-    pub same-length : length (σ₀ here) ≡ words
-    same-length = kept-store here
-
     -- an effect that is applied, r with the words υ being what it leaves
     pub again : {e : Effect} {r : State} (υ : List ℕ) → length υ ≡ words → d here .effect ≡ e → Settled at-hand r (slots υ) e
         → Ok r × (length υ ≡ words) × (r .steps ≤ begun t (top t (planned here)) .args .t1 .steps) × (turns (code t (top t (planned here))) (ws t (top t (planned here))) (rs t (top t (planned here))) (top t (planned here) .loop .todo - 1) (nextOf r (slots υ)) ≡ turns (code t (top t (planned here))) (ws t (top t (planned here))) (rs t (top t (planned here))) (begun t (top t (planned here)) .args .count) (nextOf (begun t (top t (planned here)) .args .t1) (slots (now (begun t (top t (planned here)) .args .store)))))

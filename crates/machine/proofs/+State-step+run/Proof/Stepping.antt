@@ -15,7 +15,7 @@ use Rattle.machine.proofs.State.step.Reads as step
 use Rattle.machine.proofs.+State-step+run.Lts-State-step as step-lts
 use Rattle.machine.proofs.+State-step+run.Proof.Places.{Dropped, Lent, Numbered, Named, Upper, Below, Both, Local, Stored, Copied, Raising, Risen, Lowering, Making, Kept, Rewritten, Opening, Opened, Open-risen, Bound, Bodied, Ran-body, Charged, step-at, Inv-loop, μ-loop, calls, Start, Head, Asked, Paid, Planned, Faults, Raised, Caught, Ends, Blocks, Concluded, Drops, Jumps, Numbers, Handles, Labels, Pairs, Gets, Sets, Tries, Leaves, Raises, Lowers, Makes, Writes, Opens}
 use Rattle.machine.proofs.+State-step+run.Proof.Loop.{begun, code, ws, rs, sizes, head, top, ok, now-most}
-use Rattle.machine.proofs.+State-step+run.Proof.Deciding.{now-dropped, now-ok, same-length, at-hand, again, now-dropped-steps, room-numbers, room-handles, room-labels, room-pairs, room-gets, room-tries, room-leaves, room-makes, room-opens, clear, room-blocks, new-frame, stopped, under, block-of, dropped-of}
+use Rattle.machine.proofs.+State-step+run.Proof.Deciding.{now-dropped, now-ok, here, kept-store, at-hand, again, now-dropped-steps, room-numbers, room-handles, room-labels, room-pairs, room-gets, room-tries, room-leaves, room-makes, room-opens, clear, room-blocks, new-frame, stopped, under, block-of, dropped-of}
 
 module _ (t : ℕ) where
   pub loop-holds : step-lts.Need-loop-holds (calls t) (step-at t) step.Post Inv-loop μ-loop
@@ -43,7 +43,7 @@ module _ (t : ℕ) where
   loop-again c = let g : Faults t = search in
       let r : Raised t = search in
       let h : Dropped t = search in
-      rw (c .end .ensures) (again t h _ (same-length t h) (g .e .given .1) (does-end-fault (at-hand t h) (g .e .given .0 .0) _ _ _ (r .raised .ensures) (stopped t (search))))
+      rw (c .end .ensures) (again t h _ (kept-store t (here t h)) (g .e .given .1) (does-end-fault (at-hand t h) (g .e .given .0 .0) _ _ _ (r .raised .ensures) (stopped t (search))))
 
   pub caught-requires : step-lts.Need-caught-requires (calls t) (step-at t) step.Post Inv-loop μ-loop
   caught-requires c κs = let e : Caught t = search in let h : Dropped t = search in (now-ok t h .stack .index, under t e, now-ok t h .frames .low _)
@@ -52,25 +52,25 @@ module _ (t : ℕ) where
   loop-again-2 c = let g : Faults t = search in
       let r : Raised t = search in
       let h : Dropped t = search in
-      rw (c .caught .ensures) (again t h _ (same-length t h) (g .e .given .1) (does-catch (at-hand t h) (g .e .given .0 .0) _ _ _ _ (r .raised .ensures) (under t (search)) refl))
+      rw (c .caught .ensures) (again t h _ (kept-store t (here t h)) (g .e .given .1) (does-catch (at-hand t h) (g .e .given .0 .0) _ _ _ _ (r .raised .ensures) (under t (search)) refl))
 
   pub loop-again-3 : step-lts.Need-loop-again-3 (calls t) (step-at t) step.Post Inv-loop μ-loop
-  loop-again-3 c = let g : Drops t = search in let h : Dropped t = search in again t h _ (same-length t h) (g .enum-told .given .1) (does-drop (at-hand t h))
+  loop-again-3 c = let g : Drops t = search in let h : Dropped t = search in again t h _ (kept-store t (here t h)) (g .enum-told .given .1) (does-drop (at-hand t h))
 
   pub loop-again-4 : step-lts.Need-loop-again-4 (calls t) (step-at t) step.Post Inv-loop μ-loop
-  loop-again-4 c = let g : Jumps t = search in let h : Dropped t = search in again t h _ (same-length t h) (g .e2 .given .1) (does-jump (at-hand t h) _)
+  loop-again-4 c = let g : Jumps t = search in let h : Dropped t = search in again t h _ (kept-store t (here t h)) (g .e2 .given .1) (does-jump (at-hand t h) _)
 
   pub element-set-from-self : step-lts.Need-element-set-from-self (calls t) (step-at t) step.Post Inv-loop μ-loop
   element-set-from-self c = pushed-low _ (now-ok t (search)) (room-numbers t (search))
 
   pub loop-again-5 : step-lts.Need-loop-again-5 (calls t) (step-at t) step.Post Inv-loop μ-loop
-  loop-again-5 c = let g : Numbers t = search in let n : Numbered t = search in let h : Dropped t = search in rw (n .number .ensures) (again t h _ (same-length t h) (g .e3 .given .1) (does-number (at-hand t h) (room-numbers t g) _))
+  loop-again-5 c = let g : Numbers t = search in let n : Numbered t = search in let h : Dropped t = search in rw (n .number .ensures) (again t h _ (kept-store t (here t h)) (g .e3 .given .1) (does-number (at-hand t h) (room-numbers t g) _))
 
   pub element-set-from-self-2 : step-lts.Need-element-set-from-self-2 (calls t) (step-at t) step.Post Inv-loop μ-loop
   element-set-from-self-2 c = pushed-low _ (now-ok t (search)) (room-handles t (search))
 
   pub loop-again-6 : step-lts.Need-loop-again-6 (calls t) (step-at t) step.Post Inv-loop μ-loop
-  loop-again-6 c = let g : Handles t = search in let h : Dropped t = search in again t h _ (same-length t h) (g .e4 .given .1) (does-handle (at-hand t h) (room-handles t g) _ _)
+  loop-again-6 c = let g : Handles t = search in let h : Dropped t = search in again t h _ (kept-store t (here t h)) (g .e4 .given .1) (does-handle (at-hand t h) (room-handles t g) _ _)
 
   pub label-from-requires : step-lts.Need-label-from-requires (calls t) (step-at t) step.Post Inv-loop μ-loop
   label-from-requires c κs = let p : Planned t = search in (sizes t (top t p) .labels, top t p .loop .inv .1)
@@ -79,7 +79,7 @@ module _ (t : ℕ) where
   element-set-from-self-3 c = pushed-low _ (now-ok t (search)) (room-labels t (search))
 
   pub loop-again-7 : step-lts.Need-loop-again-7 (calls t) (step-at t) step.Post Inv-loop μ-loop
-  loop-again-7 c = let g : Labels t = search in let l : Named t = search in let h : Dropped t = search in again t h _ (same-length t h) (g .e5 .given .1) (does-label (at-hand t h) (room-labels t g) (g .e5 .given .0 .0) _ (l .label-from .ensures))
+  loop-again-7 c = let g : Labels t = search in let l : Named t = search in let h : Dropped t = search in again t h _ (kept-store t (here t h)) (g .e5 .given .1) (does-label (at-hand t h) (room-labels t g) (g .e5 .given .0 .0) _ (l .label-from .ensures))
 
   pub element-set-from-self-4 : step-lts.Need-element-set-from-self-4 (calls t) (step-at t) step.Post Inv-loop μ-loop
   element-set-from-self-4 c = pushed-low _ (now-ok t (search)) (room-pairs t (search))
@@ -87,7 +87,7 @@ module _ (t : ℕ) where
   pub loop-again-8 : step-lts.Need-loop-again-8 (calls t) (step-at t) step.Post Inv-loop μ-loop
   loop-again-8 c = let g : Pairs t = search in let m : Upper t = search in let l : Below t = search in let b : Both t = search in
       let h : Dropped t = search in
-      again t h _ (same-length t h) (g .e6 .given .1) (does-pair (at-hand t h) (room-pairs t g) (g .e6 .given .0 .0) _ _ _ (m .label-in .ensures) (l .label-in2 .ensures) (b .paired .ensures))
+      again t h _ (kept-store t (here t h)) (g .e6 .given .1) (does-pair (at-hand t h) (room-pairs t g) (g .e6 .given .0 .0) _ _ _ (m .label-in .ensures) (l .label-in2 .ensures) (b .paired .ensures))
 
   pub element-copy-out-v-4 : step-lts.Need-element-copy-out-v-4 (calls t) (step-at t) step.Post Inv-loop μ-loop
   element-copy-out-v-4 c = in-locals _ _ (c .least3 .ensures)
@@ -97,34 +97,34 @@ module _ (t : ℕ) where
 
   pub loop-again-9 : step-lts.Need-loop-again-9 (calls t) (step-at t) step.Post Inv-loop μ-loop
   loop-again-9 c = let g : Gets t = search in let l : Local t = search in let h : Dropped t = search in
-      again t h _ (same-length t h) (g .e7 .given .1) (does-get (at-hand t h) (room-gets t g) _ _ ((rw (l .least3 .ensures) at (c .present .ensures)) ∙ read-at (now-dropped t h .locals) _ 15 (now-ok t h .locals)))
+      again t h _ (kept-store t (here t h)) (g .e7 .given .1) (does-get (at-hand t h) (room-gets t g) _ _ ((rw (l .least3 .ensures) at (c .present .ensures)) ∙ read-at (now-dropped t h .locals) _ 15 (now-ok t h .locals)))
 
   pub element-set-from-v : step-lts.Need-element-set-from-v (calls t) (step-at t) step.Post Inv-loop μ-loop
   element-set-from-v c = let i : Stored t = search in i .if3 .taken
 
   pub loop-again-10 : step-lts.Need-loop-again-10 (calls t) (step-at t) step.Post Inv-loop μ-loop
-  loop-again-10 c = let g : Sets t = search in let h : Dropped t = search in again t h _ (same-length t h) (g .e8 .given .1) (does-set (at-hand t h) _ _ refl)
+  loop-again-10 c = let g : Sets t = search in let h : Dropped t = search in again t h _ (kept-store t (here t h)) (g .e8 .given .1) (does-set (at-hand t h) _ _ refl)
 
   pub loop-again-11 : step-lts.Need-loop-again-11 (calls t) (step-at t) step.Post Inv-loop μ-loop
-  loop-again-11 c = let g : Sets t = search in let h : Dropped t = search in again t h _ (same-length t h) (g .e8 .given .1) (does-set (at-hand t h) _ (now-dropped t h .locals) (sym (set-out (now-dropped t h .locals) (g .e8 .given .0 .0) _ (omega (arith, c .if3 .left, now-ok t h .locals)))))
+  loop-again-11 c = let g : Sets t = search in let h : Dropped t = search in again t h _ (kept-store t (here t h)) (g .e8 .given .1) (does-set (at-hand t h) _ (now-dropped t h .locals) (sym (set-out (now-dropped t h .locals) (g .e8 .given .0 .0) _ (omega (arith, c .if3 .left, now-ok t h .locals)))))
 
   pub element-set-from-self-6 : step-lts.Need-element-set-from-self-6 (calls t) (step-at t) step.Post Inv-loop μ-loop
   element-set-from-self-6 c = new-frame t (search)
 
   pub loop-again-12 : step-lts.Need-loop-again-12 (calls t) (step-at t) step.Post Inv-loop μ-loop
-  loop-again-12 c = let g : Tries t = search in let h : Dropped t = search in again t h _ (same-length t h) (g .e9 .given .1) (does-try (at-hand t h) _ (room-tries t g))
+  loop-again-12 c = let g : Tries t = search in let h : Dropped t = search in again t h _ (kept-store t (here t h)) (g .e9 .given .1) (does-try (at-hand t h) _ (room-tries t g))
 
   pub loop-again-13 : step-lts.Need-loop-again-13 (calls t) (step-at t) step.Post Inv-loop μ-loop
-  loop-again-13 c = let g : Leaves t = search in let h : Dropped t = search in again t h _ (same-length t h) (g .enum-told2 .given .1) (does-done (at-hand t h) (room-leaves t g))
+  loop-again-13 c = let g : Leaves t = search in let h : Dropped t = search in again t h _ (kept-store t (here t h)) (g .enum-told2 .given .1) (does-done (at-hand t h) (room-leaves t g))
 
   pub loop-again-14 : step-lts.Need-loop-again-14 (calls t) (step-at t) step.Post Inv-loop μ-loop
-  loop-again-14 c = let g : Ends t = search in let d : Copied t = search in let h : Dropped t = search in rw (c .end2 .ensures) (again t h _ (same-length t h) (g .enum-told3 .given .1) (does-end (at-hand t h) _ (d .same .ensures)))
+  loop-again-14 c = let g : Ends t = search in let d : Copied t = search in let h : Dropped t = search in rw (c .end2 .ensures) (again t h _ (kept-store t (here t h)) (g .enum-told3 .given .1) (does-end (at-hand t h) _ (d .same .ensures)))
 
   pub loop-again-15 : step-lts.Need-loop-again-15 (calls t) (step-at t) step.Post Inv-loop μ-loop
-  loop-again-15 c = let g : Raises t = search in let l : Raising t = search in let r : Risen t = search in let h : Dropped t = search in rw (r .raise .ensures) (again t h _ (same-length t h) (g .enum-told4 .given .1) (does-raise (at-hand t h) _ (l .label-in3 .ensures)))
+  loop-again-15 c = let g : Raises t = search in let l : Raising t = search in let r : Risen t = search in let h : Dropped t = search in rw (r .raise .ensures) (again t h _ (kept-store t (here t h)) (g .enum-told4 .given .1) (does-raise (at-hand t h) _ (l .label-in3 .ensures)))
 
   pub loop-again-16 : step-lts.Need-loop-again-16 (calls t) (step-at t) step.Post Inv-loop μ-loop
-  loop-again-16 c = let g : Lowers t = search in let l : Lowering t = search in let h : Dropped t = search in again t h _ (same-length t h) (g .enum-told5 .given .1) (does-lower (at-hand t h) _ (l .label-in4 .ensures))
+  loop-again-16 c = let g : Lowers t = search in let l : Lowering t = search in let h : Dropped t = search in again t h _ (kept-store t (here t h)) (g .enum-told5 .given .1) (does-lower (at-hand t h) _ (l .label-in4 .ensures))
 
   pub element-set-from-self-7 : step-lts.Need-element-set-from-self-7 (calls t) (step-at t) step.Post Inv-loop μ-loop
   element-set-from-self-7 c = pushed-low _ (now-ok t (search)) (room-makes t (search))
@@ -132,10 +132,10 @@ module _ (t : ℕ) where
   pub loop-again-17 : step-lts.Need-loop-again-17 (calls t) (step-at t) step.Post Inv-loop μ-loop
   loop-again-17 c = let g : Makes t = search in let l : Making t = search in let k : Kept t = search in
       let h : Dropped t = search in
-      again t h _ (k .keep .kept .1 .1 .1 .1 .0 ∙ same-length t h) (g .e10 .given .1) (does-make (at-hand t h) _ _ _ (room-makes t g) (l .label-in5 .ensures) (k .keep .ensures))
+      again t h _ (k .keep .kept .1 .1 .1 .1 .0 ∙ kept-store t (here t h)) (g .e10 .given .1) (does-make (at-hand t h) _ _ _ (room-makes t g) (l .label-in5 .ensures) (k .keep .ensures))
 
   pub loop-again-18 : step-lts.Need-loop-again-18 (calls t) (step-at t) step.Post Inv-loop μ-loop
-  loop-again-18 c = let g : Writes t = search in let k : Rewritten t = search in let h : Dropped t = search in again t h _ (k .rewrite .kept .0 ∙ same-length t h) (g .e11 .given .1) (does-write (at-hand t h) _ _ (k .rewrite .ensures))
+  loop-again-18 c = let g : Writes t = search in let k : Rewritten t = search in let h : Dropped t = search in again t h _ (k .rewrite .kept .0 ∙ kept-store t (here t h)) (g .e11 .given .1) (does-write (at-hand t h) _ _ (k .rewrite .ensures))
 
   pub element-set-from-self-8 : step-lts.Need-element-set-from-self-8 (calls t) (step-at t) step.Post Inv-loop μ-loop
   element-set-from-self-8 c = pushed-low _ (now-ok t (search)) (room-opens t (search))
@@ -143,7 +143,7 @@ module _ (t : ℕ) where
   pub loop-again-19 : step-lts.Need-loop-again-19 (calls t) (step-at t) step.Post Inv-loop μ-loop
   loop-again-19 c = let g : Opens t = search in let l : Opening t = search in let v : Opened t = search in let r : Open-risen t = search in
       let h : Dropped t = search in
-      rw (r .raise2 .ensures) (again t h _ (same-length t h) (g .e12 .given .1) (does-open (at-hand t h) (room-opens t g) _ _ _ (l .label-of .ensures) (v .value-of .ensures)))
+      rw (r .raise2 .ensures) (again t h _ (kept-store t (here t h)) (g .e12 .given .1) (does-open (at-hand t h) (room-opens t g) _ _ _ (l .label-of .ensures) (v .value-of .ensures)))
 
   pub inside-requires : step-lts.Need-inside-requires (calls t) (step-at t) step.Post Inv-loop μ-loop
   inside-requires c κs = let h : Dropped t = search in (clear t (search) .deep, omega (arith, clear t (search) .room, now-ok t h .places .most))
@@ -166,7 +166,7 @@ module _ (t : ℕ) where
       let b : Bodied t = search in let l : Bound t = search in let g : Blocks t = search in
       let h : Dropped t = search in
       rw (z .charge2 .ensures)
-      (again t h _ (s .conclude .kept .1 .1 .1 .1 .0 ∙ d .run .kept .1 .1 .1 .1 .1 .1 .0 ∙ same-length t h) (g .e13 .given .1)
+      (again t h _ (s .conclude .kept .1 .1 .1 .1 .0 ∙ d .run .kept .1 .1 .1 .1 .1 .1 .0 ∙ kept-store t (here t h)) (g .e13 .given .1)
       (does-block (at-hand t h) _ _ _ _ _ _ _ _ (clear t g) (l .label-in6 .ensures) (b .inside .ensures) (d .run .ensures) (s .conclude .ensures)))
 
   pub returns-2 : step-lts.Need-returns-2 (calls t) (step-at t) step.Post Inv-loop μ-loop
