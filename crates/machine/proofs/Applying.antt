@@ -18,7 +18,7 @@ use Rattle.model.specs.declared.Ending.{Ending}
 use Rattle.model.specs.declared.Ending.the-variants.{Result, Fault as Faulted}
 use Rattle.model.specs.State.{Control, Store, Outcome, at, number, value, push, withFrames, withLabel, withNext}
 use Rattle.model.specs.declared.Account.{Account}
-use Rattle.model.specs.Effects.{go, fail, failTo, holding, outcome, sealOutcome}
+use Rattle.model.specs.Effects.{go, fail, failTo, holding, outcome, bodyAccount, sealOutcome}
 use Rattle.model.specs.Running.{runs}
 use Rattle.store.specs.Records.{labelAt, valueAt, rewritten}
 use Rattle.operands.specs.Program.{program}

@@ -15,7 +15,7 @@ use Rattle.model.specs.State.{Control, Store, Outcome, Program, number, withSte
 use Rattle.model.specs.declared.Account.{Account}
 use Rattle.model.specs.Decoding.{fetch, after}
 use Rattle.model.specs.Operands.{plan}
-use Rattle.model.specs.Effects.{Next, go, stop}
+use Rattle.model.specs.Effects.{Next, go, stop, bodyAccount}
 use Rattle.model.specs.Running.{perform, step, resume, runs}
 use Rattle.model.proofs.Effects.{accountOf}
 use Rattle.model.proofs.Fuel.{step-spends, runs-spent, runs-next}

@@ -228,8 +228,8 @@ module _ (t : ℕ) where
   abbrev pub Inside-loop : Type 0
   Inside-loop = step-lts.In-loop calls (step-at t) step.Post Inv-loop μ-loop
 
-  abbrev pub Account : Type 0
-  Account = step-lts.After-account calls (step-at t) step.Post Inv-loop μ-loop
+  abbrev pub Accounted : Type 0
+  Accounted = step-lts.After-account calls (step-at t) step.Post Inv-loop μ-loop
 
   abbrev pub Numbered : Type 0
   Numbered = step-lts.After-number calls (step-at t) step.Post Inv-loop μ-loop

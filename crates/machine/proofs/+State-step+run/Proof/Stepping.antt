@@ -37,7 +37,7 @@ module _ (t : ℕ) where
   decode-requires c κs = let p : Paid t = search in begun t (head t p) .pre .1 .1 .code
 
   pub on-labels-requires : step-lts.Need-on-labels-requires (calls t) (step-at t) step.Post Inv-loop μ-loop
-  on-labels-requires c κs = let a : Account t = search in let p : Planned t = search in (rw (a .account .ensures) (ok t p .places .used), top t p .loop .inv .1)
+  on-labels-requires c κs = let a : Accounted t = search in let p : Planned t = search in (rw (a .account .ensures) (ok t p .places .used), top t p .loop .inv .1)
 
   pub loop-again : step-lts.Need-loop-again (calls t) (step-at t) step.Post Inv-loop μ-loop
   loop-again c = let g : Faults t = search in
