@@ -30,8 +30,8 @@
 #define NECHWALU_RECORD_SIZE 36
 
 /*
- * Where the fields of a view start. All numbers, words and tables are little-endian, and none of them need be aligned.
- * Those up to NECHWALU_AT_LENGTH are numbers of 2 bytes.
+ * Where the fields of a view start. All numbers, words and tables are little-endian, and they are not aligned: take them
+ * from their bytes. Those up to NECHWALU_AT_LENGTH are numbers of 2 bytes.
  */
 #define NECHWALU_AT_ENDING 0
 #define NECHWALU_AT_STEPS 2
