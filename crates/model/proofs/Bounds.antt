@@ -1,14 +1,16 @@
--- A run keeps within its steps and its allotment, and its steps are those of its instructions.
+-- A run keeps within its steps and its allotment, and what it has used is what its instructions cost, one by one.
+use mathlib.Core.List.{List, [], _∷_}
 use mathlib.Core.Path.{_≡_, refl, _∙_}
 use Prim.Native.Nat.{ℕ, zero, suc, _+_, _≤_}
 use native.Mathlib.Nat.{le-refl}
 use native.Mathlib.Omega.{arith}
+use lib.ListN.{length}
 use Rattle.model.specs.State.{Control, Store, Program, withSteps}
 use Rattle.model.specs.declared.Account.{Account}
 use Rattle.model.specs.Effects.{Next, go, stop}
 use Rattle.model.specs.Running.{step, resume, pay, run, runs}
 use Rattle.model.proofs.Effects.{accountOf, Runs, run-of}
-use Rattle.model.proofs.Costs.{nextCost, step-cost}
+use Rattle.model.proofs.Costs.{Cost, withStep, nextCost, Paid, instruction-cost}
 
 -- ── bounds ──
 
@@ -52,45 +54,77 @@ pub runs-within : (P : Program) (c : Control) (a : Account) (σ : Store) → a .
 unfolding runs
 runs-within P c a σ i = run-of P (λ a σ. a .next ≤ a .limit) (λ a σ b τ. Within a b) (within-runs P) (a .steps) c a σ i
 
--- ── the steps of a run, added up ──
+-- ── what a run pays, instruction by instruction ──
+
+-- the steps and the places of some costs, added up
+unfoldable pub stepsOf : List Cost → ℕ
+stepsOf [] = 0
+stepsOf (x ∷ xs) = x .steps + stepsOf xs
+
+unfoldable pub placesOf : List Cost → ℕ
+placesOf [] = 0
+placesOf (x ∷ xs) = x .places + placesOf xs
 
 -- as `resume` and `pay` go on
-abbrev onward : (Control → Account → Store → ℕ) → Next → ℕ
+abbrev onward : (Control → Account → Store → List Cost) → Next → List Cost
 onward u (go c a σ) = u c a σ
-onward u (stop e a σ) = 0
+onward u (stop e a σ) = []
 
-abbrev whileLeft : ℕ → (ℕ → ℕ) → ℕ
-whileLeft zero k = 0
+abbrev whileLeft : ℕ → (ℕ → List Cost) → List Cost
+whileLeft zero k = []
 whileLeft (suc n) k = k n
 
--- 1 and the cost of each instruction from here on; f bounds their number, as in `run`
-unfoldable pub used : Program → ℕ → Control → Account → Store → ℕ
-used P zero c a σ = 0
-used P (suc f) c a σ =
-    whileLeft (a .steps) (λ n. 1 + nextCost P c (withSteps n a) .steps + onward (used P f) (step P (run P f) c (withSteps n a) σ))
+-- What the run pays for each instruction from here on, one by one: 1 step, and what it costs beyond. f bounds their
+-- number, as in `run`.
+unfoldable pub payments : Program → ℕ → Control → Account → Store → List Cost
+payments P zero c a σ = []
+payments P (suc f) c a σ =
+    whileLeft (a .steps) (λ n. withStep (nextCost P c (withSteps n a)) ∷ onward (payments P f) (step P (run P f) c (withSteps n a) σ))
+
+-- account b is account a with these costs paid, and nothing else
+pub record Settled (xs : List Cost) (a b : Account) : Type 0 where
+  pub steps : b .steps + stepsOf xs ≡ a .steps
+  pub next : b .next ≡ a .next + placesOf xs
 
 module _ (P : Program) where
-  resume-used : (f n x : ℕ) (y : Next) → ((c : Control) (a : Account) (σ : Store) → run P f c a σ .account .steps + used P f c a σ ≡ a .steps)
-      → accountOf y .steps + x ≡ n → resume (run P f) y .account .steps + (1 + x + onward (used P f) y) ≡ suc n
-  unfolding resume
-  resume-used f n x (go c a σ) h e = omega (arith, h c a σ)
-  resume-used f n x (stop d a σ) h e = omega arith
+  settle-on : (f : ℕ) (x : Cost) (a : Account) (y : Next) → ((c : Control) (a : Account) (σ : Store) → Settled (payments P f c a σ) a (run P f c a σ .account))
+      → Paid x a (accountOf y) → Settled (x ∷ onward (payments P f) y) a (resume (run P f) y .account)
+  unfolding resume stepsOf placesOf
+  settle-on f x a (go c d σ) h p =
+      let r = h c d σ in
+      record { steps = omega (arith, r .steps, p .steps); next = omega (arith, r .next, p .next) }
+  settle-on f x a (stop e d σ) h p = record { steps = omega (arith, p .steps); next = omega (arith, p .next) }
 
-  run-used : (f : ℕ) (c : Control) (a : Account) (σ : Store) → run P f c a σ .account .steps + used P f c a σ ≡ a .steps
-  unfolding run used pay
-  run-used zero c a σ = omega arith
-  run-used (suc f) c a σ = left (run-used f) (a .steps) refl
+  run-settled : (f : ℕ) (c : Control) (a : Account) (σ : Store) → Settled (payments P f c a σ) a (run P f c a σ .account)
+  unfolding run payments pay stepsOf placesOf
+  run-settled zero c a σ = record { steps = omega arith; next = omega arith }
+  run-settled (suc f) c a σ = left (run-settled f) (a .steps) refl
     where
-      left : ((c : Control) (a : Account) (σ : Store) → run P f c a σ .account .steps + used P f c a σ ≡ a .steps) → (m : ℕ) → a .steps ≡ m
-          → pay m a σ (λ b. resume (run P f) (step P (run P f) c b σ)) .account .steps
-          + whileLeft m (λ n. 1 + nextCost P c (withSteps n a) .steps + onward (used P f) (step P (run P f) c (withSteps n a) σ))
-          ≡ m
-      left h zero e = omega arith
+      left : ((c : Control) (a : Account) (σ : Store) → Settled (payments P f c a σ) a (run P f c a σ .account)) → (m : ℕ) → a .steps ≡ m
+          → Settled (whileLeft m (λ n. withStep (nextCost P c (withSteps n a)) ∷ onward (payments P f) (step P (run P f) c (withSteps n a) σ))) a
+          (pay m a σ (λ b. resume (run P f) (step P (run P f) c b σ)) .account)
+      left h zero e = record { steps = omega arith; next = omega arith }
       left h (suc n) e =
-          resume-used f n (nextCost P c (withSteps n a) .steps) (step P (run P f) c (withSteps n a) σ) h
-          (step-cost P (run P f) c (withSteps n a) σ .steps)
+          settle-on f (withStep (nextCost P c (withSteps n a))) a (step P (run P f) c (withSteps n a) σ) h (instruction-cost P (run P f) c a σ n e)
 
-  -- The steps that a run has used are 1 and the cost of each of its instructions.
-  pub runs-used : (c : Control) (a : Account) (σ : Store) → runs P c a σ .account .steps + used P (a .steps) c a σ ≡ a .steps
+  -- The steps that a run has used and the places that it has taken are those of its instructions, paid one by one.
+  pub runs-used : (c : Control) (a : Account) (σ : Store) → Settled (payments P (a .steps) c a σ) a (runs P c a σ .account)
   unfolding runs
-  runs-used c a σ = run-used (a .steps) c a σ
+  runs-used c a σ = run-settled (a .steps) c a σ
+
+  -- Each takes a step at least, so a run of n steps takes at most n instructions.
+  pub payments-least : (f : ℕ) (c : Control) (a : Account) (σ : Store) → length (payments P f c a σ) ≤ stepsOf (payments P f c a σ)
+  unfolding payments stepsOf
+  payments-least zero c a σ = omega arith
+  payments-least (suc f) c a σ = left (payments-least f) (a .steps)
+    where
+      onward-least : ((c : Control) (a : Account) (σ : Store) → length (payments P f c a σ) ≤ stepsOf (payments P f c a σ)) → (y : Next)
+          → length (onward (payments P f) y) ≤ stepsOf (onward (payments P f) y)
+      onward-least h (go c a σ) = h c a σ
+      onward-least h (stop e a σ) = omega arith
+
+      left : ((c : Control) (a : Account) (σ : Store) → length (payments P f c a σ) ≤ stepsOf (payments P f c a σ)) → (m : ℕ)
+          → length (whileLeft m (λ n. withStep (nextCost P c (withSteps n a)) ∷ onward (payments P f) (step P (run P f) c (withSteps n a) σ)))
+          ≤ stepsOf (whileLeft m (λ n. withStep (nextCost P c (withSteps n a)) ∷ onward (payments P f) (step P (run P f) c (withSteps n a) σ)))
+      left h zero = omega arith
+      left h (suc n) = omega (arith, onward-least h (step P (run P f) c (withSteps n a) σ))

@@ -27,6 +27,10 @@ pub record Cost : Type 0 where
 abbrev pub costs : ℕ → ℕ → Cost
 costs s p = record { steps = s; places = p }
 
+-- with the instruction's own step
+abbrev pub withStep : Cost → Cost
+withStep x = costs (1 + x .steps) (x .places)
+
 -- 23 and 24 of SEAL, NEW and BLOCK don't apply
 abbrev pub targetOk : Program → Account → Label → Bool
 targetOk P a l = P .flows (a .label) l && P .flows l (a .clearance)
@@ -149,5 +153,7 @@ step-cost P R c a σ = perform-cost P R (jump (P .after (c .pc)) c) a σ (plan P
 
 -- with its own step
 pub instruction-cost : (P : Program) (R : Runner) (c : Control) (a : Account) (σ : Store) (n : ℕ) → a .steps ≡ suc n
-    → accountOf (step P R c (withSteps n a) σ) .steps + (1 + nextCost P c (withSteps n a) .steps) ≡ a .steps
-instruction-cost P R c a σ n e = omega (arith, step-cost P R c (withSteps n a) σ .steps)
+    → Paid (withStep (nextCost P c (withSteps n a))) a (accountOf (step P R c (withSteps n a) σ))
+instruction-cost P R c a σ n e =
+    let p = step-cost P R c (withSteps n a) σ in
+    record { steps = omega (arith, p .steps); next = p .next; limit = p .limit; depth = p .depth }

@@ -7,6 +7,7 @@ pub mod Effects
 pub mod Fuel
 pub mod Costs
 pub mod Bounds
+pub mod Spending
 pub mod Kept
 -- Two runs: what an observer sees of both.
 pub mod Plans

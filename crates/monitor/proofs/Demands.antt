@@ -3,12 +3,16 @@ use mathlib.Core.Bool.{Bool, true, false}
 use mathlib.Core.List.{List, [], _∷_, _++_}
 use mathlib.Core.Logic.{_⊎_, inl, inr}
 use mathlib.Core.Path.{_≡_, refl, sym, subst₂}
-use Prim.Native.Nat.{ℕ, _≤_, _<_}
+use Prim.Native.Nat.{ℕ, _+_, _-_, _≤_, _<_}
 use native.Mathlib.Omega.{arith}
 use borrow.Author.Tests.{lt-ltb, le-leb, eqb-true, eqb-false}
 use lib.Dec.{leb, ltb, eqb}
 use lib.ListN.{length, drop}
-use Rattle.model.proofs.Bounds.{runs-within}
+use Rattle.model.proofs.Costs.{Cost}
+use Rattle.model.proofs.Bounds.{runs-within, stepsOf, placesOf, payments, Settled, runs-used, payments-least}
+use Rattle.model.proofs.Spending.{spent-left}
+use Rattle.model.specs.State.{Store}
+use Rattle.model.specs.declared.Ending.the-variants.{Spent}
 use Rattle.model.specs.Inputs.{inputSlots}
 use Rattle.model.specs.Running.{startControl, startStore}
 use Rattle.noninterference.proofs.Demand3.{demand-3}
@@ -32,11 +36,21 @@ pub record IsRefused (b : List ℕ) (q : Reading) : Type 0 where
   pub most : number ≤ 9
   pub untouched : q ≡ refuse number b
 
--- a view of the file's run, which ended within the steps and places that it declares. A run ends in a result, a fault or
--- spent steps: `Ending` has no other case.
+-- what the file's run pays for its instructions, one by one
+unfoldable pub filePayments : List ℕ → List Cost
+filePayments bs = payments (fileProgram bs) (header bs .steps) startControl (fileAccount bs) (startStore (inputSlots (fileInputs bs)))
+
+-- A view of the file's run. A run ends in a result, a fault or spent steps: `Ending` has no other case.
 pub record IsViewed (bs : List ℕ) (i : ℕ) (b : List ℕ) (q : Reading) : Type 0 where
-  pub steps : fileRun bs .account .steps ≤ header bs .steps
-  pub places : fileRun bs .account .next ≤ header bs .places
+  -- The steps used are those declared less those left, and were paid one by one, an instruction 1 at least. They are
+  -- within those declared, and all of them where the run ended spent.
+  pub steps-used : header bs .steps - fileRun bs .account .steps ≡ stepsOf (filePayments bs)
+  pub steps-each : length (filePayments bs) ≤ stepsOf (filePayments bs)
+  pub steps-within : stepsOf (filePayments bs) ≤ header bs .steps
+  pub steps-spent : fileRun bs .ending ≡ Spent → stepsOf (filePayments bs) ≡ header bs .steps
+  -- The next place is behind the input records and the places taken, one by one, within those declared.
+  pub places-taken : fileRun bs .account .next ≡ header bs .records .count + placesOf (filePayments bs)
+  pub places-within : fileRun bs .account .next ≤ header bs .places
   pub shown : q ≡ record { answer = Viewed (length (fileView bs i)); buffer = fileView bs i ++ drop (length (fileView bs i)) b }
 
 refusal-most : (bs : List ℕ) → refusal bs ≤ 7
@@ -46,11 +60,40 @@ refusal-most bs = lowest-most 0 (passes1 bs ∷ passes2 bs ∷ passes3 bs ∷ pa
 not-zero : (n : ℕ) → eqb n 0 ≡ false → 1 ≤ n
 not-zero n e = let z = eqb-false n 0 e in omega arith
 
-within : (bs : List ℕ) → refusal bs ≡ 0 → (fileRun bs .account .steps ≤ header bs .steps) × (fileRun bs .account .next ≤ header bs .places)
-unfolding fileRun fileAccount
-within bs z =
-    let w = runs-within (fileProgram bs) startControl (fileAccount bs) (startStore (inputSlots (fileInputs bs))) (within-limits bs z .inputs-fit) in
-    (w .steps, w .allotted)
+module _ (bs : List ℕ) where
+  abbrev start : Store
+  start = startStore (inputSlots (fileInputs bs))
+
+  settled : Settled (filePayments bs) (fileAccount bs) (fileRun bs .account)
+  unfolding fileRun fileAccount filePayments
+  settled = runs-used (fileProgram bs) startControl (fileAccount bs) start
+
+  paid-each : length (filePayments bs) ≤ stepsOf (filePayments bs)
+  unfolding filePayments
+  paid-each = payments-least (fileProgram bs) (header bs .steps) startControl (fileAccount bs) start
+
+  none-left : fileRun bs .ending ≡ Spent → fileRun bs .account .steps ≡ 0
+  unfolding fileRun
+  none-left e = spent-left (fileProgram bs) startControl (fileAccount bs) start e
+
+  within : refusal bs ≡ 0 → fileRun bs .account .next ≤ header bs .places
+  unfolding fileRun fileAccount
+  within z = runs-within (fileProgram bs) startControl (fileAccount bs) start (within-limits bs z .inputs-fit) .allotted
+
+  is-viewed : (i : ℕ) (b : List ℕ) (q : Reading) → refusal bs ≡ 0
+      → q ≡ record { answer = Viewed (length (fileView bs i)); buffer = fileView bs i ++ drop (length (fileView bs i)) b } → IsViewed bs i b q
+  unfolding fileAccount
+  is-viewed i b q z e =
+      let w = settled in
+      record {
+        steps-used = omega (arith, w .steps);
+        steps-each = paid-each;
+        steps-within = omega (arith, w .steps);
+        steps-spent = λ s. omega (arith, w .steps, none-left s);
+        places-taken = w .next;
+        places-within = within z;
+        shown = e;
+      }
 
 pub demand-1 : (bs : List ℕ) (i : ℕ) (b : List ℕ) → IsRefused b (reading bs i b) ⊎ IsViewed bs i b (reading bs i b)
 unfolding reading
@@ -58,7 +101,7 @@ demand-1 bs i b = loads (eqb (refusal bs) 0) refl
   where
     shows : refusal bs ≡ 0 → ltb i (header bs .labels .count) ≡ true → (t : Bool) → leb (length (fileView bs i)) (length b) ≡ t
         → IsRefused b (reading bs i b) ⊎ IsViewed bs i b (reading bs i b)
-    shows z l true e = inr (record { steps = within bs z .0; places = within bs z .1; shown = rw (z, l, e) })
+    shows z l true e = inr (is-viewed bs i b (reading bs i b) z (rw (z, l, e)))
     shows z l false e = inl (record { number = 9; least = omega arith; most = omega arith; untouched = rw (z, l, e) })
 
     listed : refusal bs ≡ 0 → (t : Bool) → ltb i (header bs .labels .count) ≡ t → IsRefused b (reading bs i b) ⊎ IsViewed bs i b (reading bs i b)

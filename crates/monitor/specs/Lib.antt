@@ -1,0 +1,2 @@
+-- What is said of the open calls.
+pub mod Calls
