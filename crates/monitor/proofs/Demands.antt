@@ -1,11 +1,11 @@
--- The three demands on a read, as the open call's contract gives them.
+-- The three demands on a read, as the open calls' contracts give them.
 use mathlib.Core.Bool.{Bool, true, false}
 use mathlib.Core.List.{List, [], _∷_, _++_}
 use mathlib.Core.Logic.{_⊎_, inl, inr}
-use mathlib.Core.Path.{_≡_, refl, sym, subst₂}
+use mathlib.Core.Path.{_≡_, refl, sym, subst, subst₂}
 use Prim.Native.Nat.{ℕ, _+_, _-_, _≤_, _<_}
 use native.Mathlib.Omega.{arith}
-use borrow.Author.Tests.{lt-ltb, le-leb, eqb-true, eqb-false}
+use borrow.Author.Tests.{lt-ltb, le-ltb, le-leb, eqb-true, eqb-false}
 use lib.Dec.{leb, ltb, eqb}
 use lib.ListN.{length, drop}
 use Rattle.model.proofs.Costs.{Cost}
@@ -16,15 +16,19 @@ use Rattle.model.specs.declared.Ending.the-variants.{Spent}
 use Rattle.model.specs.Inputs.{inputSlots}
 use Rattle.model.specs.Running.{startControl, startStore}
 use Rattle.noninterference.proofs.Demand3.{demand-3}
-use Rattle.noninterference.specs.Alike.{Alike, SameReads}
+use Rattle.noninterference.specs.Alike.{Alike, SameReads, both-refused as reads-refused, both-viewed as reads-viewed}
 use Rattle.script_file.specs.Checks.{passes1, passes2, passes3, passes4, passes5, passes6, passes7, refusal}
 use Rattle.script_file.specs.Program.{fileInputs, fileProgram, fileAccount, fileRun}
-use Rattle.script_file.specs.Sections.{header}
+use Rattle.script_file.specs.Sections.{header, labelAt}
 use Rattle.script_file.proofs.Tests.{lowest-most}
 use Rattle.script_file.proofs.Answers.{within-limits}
 use Rattle.view.specs.Reading.{Reading, refuse, fileView, reading}
-use Rattle.view.specs.declared.Answer.the-variants.{Viewed}
-use Rattle.reading.specs.Answers.{reads}
+use Rattle.view.specs.declared.Answer.the-variants.{Refused, Viewed}
+use Rattle.view.specs.Layout.{recordsAt, viewLength}
+use Rattle.view.proofs.Widths.{length-view}
+use Rattle.labels.specs.Order.{flows}
+use Rattle.reading.specs.Answers.{reads, codeOf}
+use Rattle.monitor.specs.Calls.{told, SameCalls, both-refused, both-viewed}
 use Rattle.view.specs.declared.Answer.{Answer}
 
 -- ── demand 1: total ──
@@ -127,3 +131,42 @@ pub two-calls : (bs cs : List ℕ) (i : ℕ) (b d : List ℕ) (r q : Answer) (ou
     → reads r out ≡ reading bs i b → reads q back ≡ reading cs i d
     → Alike bs cs i → length b ≡ length d → SameReads b d (reads r out) (reads q back)
 two-calls bs cs i b d r q out back e f A h = subst₂ (SameReads b d) (sym e) (sym f) (demand-3 bs cs i b d A h)
+
+-- ── the call for C and Rust, which answers one number ──
+
+-- refusals are from 1 to 9, views have 62 bytes at least
+abbrev Bounded : Answer → Type 0
+Bounded (Refused n) = (1 ≤ n) × (n ≤ 9)
+Bounded (Viewed n) = recordsAt ≤ n
+
+view-least : (bs : List ℕ) (i : ℕ) → recordsAt ≤ length (fileView bs i)
+unfolding fileView viewLength
+view-least bs i = omega (arith, length-view (λ l. flows l (labelAt bs i)) (header bs .steps) (fileRun bs))
+
+bounded : (bs : List ℕ) (i : ℕ) (b : List ℕ) → Bounded (reading bs i b .answer)
+bounded bs i b = either (demand-1 bs i b)
+  where
+    either : IsRefused b (reading bs i b) ⊎ IsViewed bs i b (reading bs i b) → Bounded (reading bs i b .answer)
+    either (inl r) = subst (λ (q : Reading). Bounded (q .answer)) (sym (r .untouched)) (r .least, r .most)
+    either (inr v) = subst (λ (q : Reading). Bounded (q .answer)) (sym (v .shown)) (view-least bs i)
+
+told-bounded : (r : Answer) → Bounded r → told (codeOf r) ≡ r
+told-bounded (Refused n) h = rw (lt-ltb n recordsAt (omega (arith, h .1)))
+told-bounded (Viewed n) h = rw (le-ltb n recordsAt h)
+
+-- The number tells the answer.
+pub code-tells : (bs : List ℕ) (i : ℕ) (b : List ℕ) → told (codeOf (reading bs i b .answer)) ≡ reading bs i b .answer
+code-tells bs i b = told-bounded (reading bs i b .answer) (bounded bs i b)
+
+same-calls : (b d : List ℕ) (p q : Reading) → Bounded (p .answer) → SameReads b d p q
+    → SameCalls b d (codeOf (p .answer)) (p .buffer) (codeOf (q .answer)) (q .buffer)
+same-calls b d p q h (reads-refused n) = both-refused n (h .0) (h .1)
+same-calls b d p q h (reads-viewed v l m) = both-viewed v h l m
+
+-- Demand 3 on two calls of it: r and q are what they answer, out and back what they leave in the buffers.
+pub two-c-calls : (bs cs : List ℕ) (i : ℕ) (b d : List ℕ) (r q : ℕ) (out back : List ℕ)
+    → r ≡ codeOf (reading bs i b .answer) → out ≡ reading bs i b .buffer
+    → q ≡ codeOf (reading cs i d .answer) → back ≡ reading cs i d .buffer
+    → Alike bs cs i → length b ≡ length d → SameCalls b d r out q back
+two-c-calls bs cs i b d r q out back er eo eq eb A h =
+    rw (er, eo, eq, eb) (same-calls b d (reading bs i b) (reading cs i d) (bounded bs i b) (demand-3 bs cs i b d A h))
