@@ -95,6 +95,8 @@ int main(int count, char **words)
     expect(reader, file[0] + 256u * file[1], "the number of labels");
 
     expect(read_with(file, length, 99, LONGEST_VIEW), 8, "index 99");
+    for (size_t high = 32; high != 0; high *= 2)
+        expect(read_with(file, length, high, LONGEST_VIEW), 8, "an index that is too high");
     expect(read_with(file, length, SIZE_MAX, LONGEST_VIEW), 8, "the highest index");
     expect(nechwalu_read(file, length, 99, NULL, 0), 8, "index 99 and no buffer");
     expect(read_with(NULL, 0, 0, LONGEST_VIEW), 1, "no file");

@@ -64,7 +64,8 @@ fn a_buffer_has_to_be_as_long_as_the_view() {
 #[test]
 fn a_reader_has_to_be_a_label() {
     for (file, lines) in EXAMPLES {
-        for reader in [lines.lines().count(), 99, usize::MAX] {
+        let too_high = (5..usize::BITS).map(|bit| 1 << bit);
+        for reader in too_high.chain([lines.lines().count(), 99, usize::MAX]) {
             assert_eq!(read_with(file, reader, LONGEST_VIEW), Err(8));
             assert_eq!(read(file, reader, &mut []), Err(8));
         }
