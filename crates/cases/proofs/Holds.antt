@@ -4,7 +4,7 @@ use mathlib.Core.List.{_++_}
 use mathlib.Core.Path.{_≡_, refl}
 use Rattle.formulas.specs.Formula.{table, implies, holds}
 use Rattle.labels.specs.Order.{flows, join, meet}
-use Rattle.label_entries.specs.Entry.{wellFormed, readEntry}
+use Rattle.label_entries.specs.Entries.{wellFormed, readEntry}
 use Rattle.model.specs.Decoding.{u16, u32, operandBytes, known, size, instrs, fetch, after}
 use Rattle.model.specs.Operands.{popFrom, asNumber, asLabel, asHandle, asSealed, asReference, arity, dropFrame, operate, plan}
 use Rattle.model.specs.Inputs.{inputs, handles, inputSlots}
@@ -16,7 +16,8 @@ use Rattle.script_file.specs.Checks.{every, sizeOk, countsOk, offsetsOk, record
 use Rattle.script_file.specs.Program.{fileInputs, fileProgram, fileAccount, fileRun}
 use Rattle.labels.specs.Cases.{allHold}
 use Rattle.view_fields.specs.Fields.{littleEndian, labelField, datumField, contentsField, endingNumber, resultField, kindByte, recordField}
-use Rattle.view.specs.Layout.{shown, slotField, recordFields, recordsShown, counts, final, viewLength, view}
+use Rattle.model.specs.State.{shown}
+use Rattle.view.specs.Layout.{slotField, recordFields, recordsShown, counts, final, viewLength, view}
 use Rattle.view.specs.Reading.{fileView}
 use Rattle.lines.specs.Lines.{hex, frontFields, recordFieldWidths, widths, spaced, line, lines, refusedLine, printed}
 use Rattle.cases.specs.Table.{table as cases}

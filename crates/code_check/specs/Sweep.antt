@@ -5,6 +5,7 @@ use mathlib.Core.List.{List, [], _∷_}
 use Prim.Native.Nat.{ℕ, zero, suc, _+_}
 use lib.Dec.{leb, ltb, eqb}
 use lib.ListN.{length}
+use Rattle.formulas.specs.Lists.{among}
 use Rattle.model.specs.Decoding.{byte, known, size, fetch}
 use Rattle.model.specs.declared.Instr.{Instr}
 use Rattle.model.specs.declared.Instr.the-variants.{End, Push, Lab, Get, Set, Pop, Add, Sub, Less, Same, Jump, Ifz, Cur, Clr, Raise, Lower, Flows, Join, Meet, Seal, Open, Labof, New, Read, Write, Block, Try, Done, Throw, Input}
@@ -17,10 +18,6 @@ sweep (suc f) code i = cond (ltb i (length code)) (i ∷ sweep f code (i + size 
 -- Each instruction has a byte at least, so the code's length bounds their number.
 unfoldable pub starts : List ℕ → List ℕ
 starts code = sweep (length code) code 0
-
-abbrev pub among : ℕ → List ℕ → Bool
-among t [] = false
-among t (i ∷ is) = eqb t i || among t is
 
 abbrev pub all : (ℕ → Bool) → List ℕ → Bool
 all f [] = true

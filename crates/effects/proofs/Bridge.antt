@@ -15,8 +15,9 @@ use Rattle.model.specs.declared.Datum.the-variants.{Number, Label as Labelled, 
 use Rattle.model.specs.declared.Frame.{Frame}
 use Rattle.model.specs.declared.Instr.{Instr}
 use Rattle.model.specs.declared.Instr.the-variants.{End, Push, Lab, Get, Set, Pop, Add, Sub, Less, Same, Jump, Ifz, Cur, Clr, Raise, Lower, Flows, Join, Meet, Seal, Open, Labof, New, Read, Write, Block, Try, Done, Throw, Input}
-use Rattle.model.specs.State.{Control, Account, Store, Program, Runner, jump, setLocal, withFrames}
-use Rattle.model.specs.Operands.{Plan as Asked, faults, asks, none, ends, throws, raises, lowers, labels, opens, makes, writes, blocks, asNumber, asLabel, asHandle, asSealed, asReference, dropFrame, arity, arityIs, operate, plan, pop, popNumber, popLabel, pushes, truth}
+use Rattle.model.specs.State.{Control, Store, Program, Runner, jump, setLocal, withFrames}
+use Rattle.model.specs.declared.Account.{Account}
+use Rattle.model.specs.Operands.{Plan, faults, asks, none, ends, throws, raises, lowers, labels, opens, makes, writes, blocks, asNumber, asLabel, asHandle, asSealed, asReference, dropFrame, arity, arityIs, operate, plan, pop, popNumber, popLabel, pushes, truth}
 use Rattle.model.specs.Effects.{go, act}
 use Rattle.model.specs.Decoding.{byte}
 use Rattle.model.specs.Inputs.{kindOf}
@@ -34,17 +35,17 @@ use Rattle.operands.specs.declared.Pair.the-variants.{Flows as Flowing, Join as
 use Rattle.operands.specs.declared.OnLabel.{OnLabel}
 use Rattle.operands.specs.declared.OnLabel.the-variants.{Raise as Raises, Lower as Lowers, Make as Makes, Block as Blocks}
 use Rattle.operands.specs.declared.OnHandle.the-variants.{Open as Opens, Label as LabelOf, Write as Writes}
-use Rattle.operands.specs.declared.Plan.{Plan}
-use Rattle.operands.specs.declared.Plan.the-variants.{Do}
-use Rattle.operands.specs.Plans.{decided, faulty, onNumber, arithOf, bitOf, numbersOf, testOf, pairOf, labelsOf, shortOf, pushOf, inputOf, planOf}
-use Rattle.effects.specs.Decisions.{lent, withLabel, onLabel, onHandle, decisionOf}
+use Rattle.operands.specs.declared.Task.{Task}
+use Rattle.operands.specs.declared.Task.the-variants.{Do}
+use Rattle.operands.specs.Tasks.{decided, faulty, onNumber, arithOf, bitOf, numbersOf, testOf, pairOf, labelsOf, shortOf, pushOf, inputOf, taskOf}
+use Rattle.effects.specs.Decisions.{withLabel, onLabel, onHandle, decisionOf}
 use Rattle.effects.proofs.Taking.{less, Bounded, Fits, Good, fit}
 use Rattle.effects.proofs.Popping.{Tops, pop-one, pop-below, plan-takes, plan-leaves, plan-plain}
 use Rattle.effects.proofs.Checking.{fault as failed, raise-good, lower-good, make-good, enter-good, open-good, label-good, write-good}
 
 module _ (code ws rs : List ℕ) (R : Runner) (c : Control) (a : Account) (σ : Store) (b : Bounded c a) where
   -- a decision does what the definition asks for
-  abbrev Does : Datum → Datum → Decision → Asked → Type 0
+  abbrev Does : Datum → Datum → Decision → Plan → Type 0
   Does y x d p = Good code ws rs R c a σ y x d (perform (program code ws rs) R c a σ p)
 
   fault : (y x : Datum) (f : ℕ) → Does y x (faulty f) (faults f)
@@ -53,7 +54,7 @@ module _ (code ws rs : List ℕ) (R : Runner) (c : Control) (a : Account) (σ : 
 
   -- ── numbers ──
 
-  on-number : (y x : Datum) (m : ℕ → Decision) (q : ℕ → Asked) → ((n : ℕ) → Does y x (m n) (q n)) → (d : Datum) → Does y x (onNumber d m) (asNumber d q)
+  on-number : (y x : Datum) (m : ℕ → Decision) (q : ℕ → Plan) → ((n : ℕ) → Does y x (m n) (q n)) → (d : Datum) → Does y x (onNumber d m) (asNumber d q)
   unfolding asNumber
   on-number y x m q g (Number n) = g n
   on-number y x m q g (Labelled l) = fault y x 22
@@ -66,7 +67,7 @@ module _ (code ws rs : List ℕ) (R : Runner) (c : Control) (a : Account) (σ : 
 
   -- ── two labels ──
 
-  pair-good : (f : Pair) (y x : Datum) (q : Label → Label → Asked) → ((m l : Label) → Does (Labelled m) (Labelled l) (pairOf f m l) (q m l))
+  pair-good : (f : Pair) (y x : Datum) (q : Label → Label → Plan) → ((m l : Label) → Does (Labelled m) (Labelled l) (pairOf f m l) (q m l))
       → Does y x (labelsOf f y x) (asLabel y (λ m. asLabel x (λ l. q m l)))
   unfolding asLabel
   pair-good f (Number n) x q g = fault (Number n) x 22
@@ -77,7 +78,7 @@ module _ (code ws rs : List ℕ) (R : Runner) (c : Control) (a : Account) (σ : 
 
   -- ── one label ──
 
-  on-label : (f : OnLabel) (x : Datum) (q : Label → Asked) → ((l : Label) → Does (Labelled l) x (withLabel f l (lent a)) (q l)) → (y : Datum) → Does y x (onLabel f y (lent a)) (asLabel y q)
+  on-label : (f : OnLabel) (x : Datum) (q : Label → Plan) → ((l : Label) → Does (Labelled l) x (withLabel f l a) (q l)) → (y : Datum) → Does y x (onLabel f y a) (asLabel y q)
   unfolding asLabel
   on-label f x q g (Number n) = fault (Number n) x 22
   on-label f x q g (Labelled l) = g l
@@ -89,30 +90,30 @@ module _ (code ws rs : List ℕ) (R : Runner) (c : Control) (a : Account) (σ : 
     abbrev P : Program
     P = program code ws rs
 
-    abbrev decides : Plan → Decision
-    decides p = decisionOf p y x (lent a) σ
+    abbrev decides : Task → Decision
+    decides p = decisionOf p y x a σ
 
     abbrev height : ℕ
     height = length (c .stack)
 
-    via : {d : Decision} {p q : Asked} → p ≡ q → Does y x d q → Does y x d p
+    via : {d : Decision} {p q : Plan} → p ≡ q → Does y x d q → Does y x d p
     via {d} e g = subst (Does y x d) (sym e) g
 
-    popped : {d : Decision} (k : Datum → Control → Asked) → 1 ≤ height → Does y x d (k y (less 1 c)) → Does y x d (pop c k)
+    popped : {d : Decision} (k : Datum → Control → Plan) → 1 ≤ height → Does y x d (k y (less 1 c)) → Does y x d (pop c k)
     popped k h g = via (pop-one c y x t k h) g
 
-    popped-below : {d : Decision} (k : Datum → Control → Asked) → 2 ≤ height → Does y x d (k x (less 2 c)) → Does y x d (pop (less 1 c) k)
+    popped-below : {d : Decision} (k : Datum → Control → Plan) → 2 ≤ height → Does y x d (k x (less 2 c)) → Does y x d (pop (less 1 c) k)
     popped-below k h g = via (pop-below c y x t k h) g
 
     -- 20
-    short-good : (i : Instr) (k l : ℕ) (p : Plan) → arity i ≡ arityIs k l → l ≤ k → (k ≤ height → Does y x (decides p) (operate P a c i)) → Does y x (decides (shortOf height k p)) (plan P a c i)
+    short-good : (i : Instr) (k l : ℕ) (p : Task) → arity i ≡ arityIs k l → l ≤ k → (k ≤ height → Does y x (decides p) (operate P a c i)) → Does y x (decides (shortOf height k p)) (plan P a c i)
     short-good i k l p e h g = via (plan-takes P a c i (b .stack) k l e h) (test (ltb height k) refl) where
       test : (z : Bool) → ltb height k ≡ z → Does y x (decides (cond z (Do (faulty 20)) p)) (cond z (faults 20) (operate P a c i))
       test true z = fault y x 20
       test false z = g (ltb-false height k z)
 
     -- 21, where l values are left and m is the last height with room
-    room-good : (i : Instr) (l m : ℕ) (p : Plan) → arity i ≡ arityIs 0 l → m + l ≡ 32 → (height + l ≤ 32 → Does y x (decides p) (operate P a c i)) → Does y x (decides (cond (ltb m height) (Do (faulty 21)) p)) (plan P a c i)
+    room-good : (i : Instr) (l m : ℕ) (p : Task) → arity i ≡ arityIs 0 l → m + l ≡ 32 → (height + l ≤ 32 → Does y x (decides p) (operate P a c i)) → Does y x (decides (cond (ltb m height) (Do (faulty 21)) p)) (plan P a c i)
     room-good i l m p e h g = via (plan-leaves P a c i (b .stack) l m e h) (test (ltb m height) refl) where
       test : (z : Bool) → ltb m height ≡ z → Does y x (decides (cond z (Do (faulty 21)) p)) (cond z (faults 21) (operate P a c i))
       test true z = fault y x 21
@@ -149,27 +150,27 @@ module _ (code ws rs : List ℕ) (R : Runner) (c : Control) (a : Account) (σ : 
         later (Handle e p) = refl
 
     -- OPEN and READ: a handle of the kind
-    opens-good : (d : Datum) → 1 ≤ height → Does y x (onHandle (Opens Sealed) d (lent a) σ) (asSealed d (λ p. asks (less 1 c) (opens p)))
+    opens-good : (d : Datum) → 1 ≤ height → Does y x (onHandle (Opens Sealed) d a σ) (asSealed d (λ p. asks (less 1 c) (opens p)))
     unfolding asSealed perform
     opens-good (Number n) h = fault y x 22
     opens-good (Labelled l) h = fault y x 22
     opens-good (Handle Sealed p) h = open-good code ws rs R c a σ b y x p h
     opens-good (Handle Reference p) h = fault y x 22
 
-    reads-good : (d : Datum) → 1 ≤ height → Does y x (onHandle (Opens Reference) d (lent a) σ) (asReference d (λ p. asks (less 1 c) (opens p)))
+    reads-good : (d : Datum) → 1 ≤ height → Does y x (onHandle (Opens Reference) d a σ) (asReference d (λ p. asks (less 1 c) (opens p)))
     unfolding asReference perform
     reads-good (Number n) h = fault y x 22
     reads-good (Labelled l) h = fault y x 22
     reads-good (Handle Sealed p) h = fault y x 22
     reads-good (Handle Reference p) h = open-good code ws rs R c a σ b y x p h
 
-    labels-good : (d : Datum) → 1 ≤ height → Does y x (onHandle LabelOf d (lent a) σ) (asHandle d (λ p. asks (less 1 c) (labels p)))
+    labels-good : (d : Datum) → 1 ≤ height → Does y x (onHandle LabelOf d a σ) (asHandle d (λ p. asks (less 1 c) (labels p)))
     unfolding asHandle perform
     labels-good (Number n) h = fault y x 22
     labels-good (Labelled l) h = fault y x 22
     labels-good (Handle e p) h = label-good code ws rs R c a σ b y x p h
 
-    writes-good : (d : Datum) → 2 ≤ height → Does y x (onHandle Writes d (lent a) σ) (asReference d (λ p. asks (less 2 c) (writes p x)))
+    writes-good : (d : Datum) → 2 ≤ height → Does y x (onHandle Writes d a σ) (asReference d (λ p. asks (less 2 c) (writes p x)))
     unfolding asReference perform
     writes-good (Number n) h = fault y x 22
     writes-good (Labelled l) h = fault y x 22
@@ -177,7 +178,7 @@ module _ (code ws rs : List ℕ) (R : Runner) (c : Control) (a : Account) (σ : 
     writes-good (Handle Reference p) h = write-good code ws rs R c a σ b y x p h
 
     -- SEAL and NEW
-    makes-good : (e : Kind) → 2 ≤ height → Does y x (onLabel (Makes e) y (lent a)) (popLabel c (λ l r. pop r (λ d q. asks q (makes e l d))))
+    makes-good : (e : Kind) → 2 ≤ height → Does y x (onLabel (Makes e) y a) (popLabel c (λ l r. pop r (λ d q. asks q (makes e l d))))
     unfolding asLabel perform
     makes-good e h =
         popped (λ d r. asLabel d (λ l. pop r (λ v q. asks q (makes e l v)))) (omega (arith, h))
@@ -225,8 +226,8 @@ module _ (code ws rs : List ℕ) (R : Runner) (c : Control) (a : Account) (σ : 
       test false = record { there = o; fits = fit-one o; does = refl }
 
     -- every instruction
-    pub decision-performs : (i : Instr) → Does y x (decides (planOf i height (length (c .frames)) rs)) (plan P a c i)
-    unfolding planOf operate arity program perform act
+    pub decision-performs : (i : Instr) → Does y x (decides (taskOf i height (length (c .frames)) rs)) (plan P a c i)
+    unfolding taskOf operate arity program perform act
     decision-performs End = short-good End 1 0 _ refl (omega arith) (λ h. popped (λ d r. asks r (ends d)) h (record { there = h; fits = fit-one h; does = refl }))
     decision-performs (Push n) = push-good (Push n) _ refl (λ f. record { there = omega arith; fits = f; does = refl })
     decision-performs (Lab i) = push-good (Lab i) _ refl (λ f. record { there = omega arith; fits = f; does = refl })

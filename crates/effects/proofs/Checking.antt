@@ -17,14 +17,15 @@ use Rattle.model.specs.declared.Contents.the-variants.{Value as Holds, Fault as
 use Rattle.model.specs.declared.Record.{Record}
 use Rattle.model.specs.declared.Slot.{Slot}
 use Rattle.model.specs.declared.Slot.the-variants.{Empty, Full}
-use Rattle.model.specs.State.{Control, Account, Store, Runner, at, withLabel, withClearance}
+use Rattle.model.specs.State.{Control, Store, Runner, at, withLabel, withClearance}
+use Rattle.model.specs.declared.Account.{Account}
 use Rattle.model.specs.Operands.{raises, lowers, labels, opens, makes, writes, blocks}
 use Rattle.model.specs.Effects.{Next, go, fail, checkTarget, act, labelSlot, openSlot, writeSlot, yield}
 use Rattle.operands.specs.Program.{program}
-use Rattle.operands.specs.Plans.{decided, faulty}
+use Rattle.operands.specs.Tasks.{decided, faulty}
 use Rattle.operands.specs.declared.Effect.the-variants.{Lower}
 use Rattle.operands.specs.declared.Decision.{Decision}
-use Rattle.effects.specs.Decisions.{lent, targetOf, passing, raiseOf, lowerOf, makeOf, enterOf, yieldOf, openOf, labelledOf, writeOf}
+use Rattle.effects.specs.Decisions.{targetOf, passing, raiseOf, lowerOf, makeOf, enterOf, yieldOf, openOf, labelledOf, writeOf}
 use Rattle.effects.proofs.Taking.{less, Bounded, Fits, Good, fit, good-fault, good-cond}
 
 module _ (code ws rs : List ℕ) (R : Runner) (c : Control) (a : Account) (σ : Store) (b : Bounded c a) where
@@ -62,7 +63,7 @@ module _ (code ws rs : List ℕ) (R : Runner) (c : Control) (a : Account) (σ : 
       test true false = fault (Labelled l) x 25
       test false q = fault (Labelled l) x 25
 
-    pub make-good : (h : Kind) → 2 ≤ length (c .stack) → Does (Labelled l) x (makeOf (lent a) h l) (act (program code ws rs) R c (less 2 c) a σ (makes h l x))
+    pub make-good : (h : Kind) → 2 ≤ length (c .stack) → Does (Labelled l) x (makeOf a h l) (act (program code ws rs) R c (less 2 c) a σ (makes h l x))
     unfolding act program
     make-good h q =
         pass-target (Labelled l) x l _ _
@@ -70,7 +71,7 @@ module _ (code ws rs : List ℕ) (R : Runner) (c : Control) (a : Account) (σ : 
         (λ e. let f : Fits (less 2 c) a 1 0 0 0 = fit c a 2 1 b q (omega (arith, b .stack)) in record { there = q; fits = record { room = f .room; free = f .free; held = f .held; places = omega (arith, ltb-true (a .next) (a .limit) e) }; does = refl })
         (λ _. fault (Labelled l) x 26))
 
-    pub enter-good : (t n j : ℕ) → 1 ≤ length (c .stack) → Does (Labelled l) x (enterOf (lent a) l t n j) (act (program code ws rs) R c (less 1 c) a σ (blocks l t n j))
+    pub enter-good : (t n j : ℕ) → 1 ≤ length (c .stack) → Does (Labelled l) x (enterOf a l t n j) (act (program code ws rs) R c (less 1 c) a σ (blocks l t n j))
     unfolding act program targetOf
     enter-good t n j h =
         test (flows (a .label) l) (flows l (a .clearance)) (ltb (a .depth) 8) (leb n (a .steps)) (leb (a .next + 1 + j) (a .limit))

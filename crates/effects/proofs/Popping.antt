@@ -10,7 +10,8 @@ use lib.ListN.{length, getD, drop}
 use Rattle.model.specs.declared.Datum.{Datum}
 use Rattle.model.specs.declared.Value.{Value}
 use Rattle.model.specs.declared.Instr.{Instr}
-use Rattle.model.specs.State.{Control, Account, Program, number, withStack}
+use Rattle.model.specs.State.{Control, Program, number, withStack}
+use Rattle.model.specs.declared.Account.{Account}
 use Rattle.model.specs.Operands.{Plan, faults, popFrom, pop, arity, arityIs, operate, plan}
 use Rattle.effects.proofs.Taking.{less}
 

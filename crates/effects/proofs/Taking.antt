@@ -10,11 +10,12 @@ use Rattle.model.specs.declared.Datum.{Datum}
 use Rattle.model.specs.declared.Datum.the-variants.{Number, Label as Labelled, Handle}
 use Rattle.model.specs.declared.Contents.the-variants.{Value as Holds}
 use Rattle.model.specs.declared.Ending.the-variants.{Result}
-use Rattle.model.specs.State.{Control, Account, Store, Runner, at, number, push, jump, setLocal, withStack, withFrames, withLabel, withClearance, withNext}
+use Rattle.model.specs.State.{Control, Store, Runner, at, number, push, jump, setLocal, withStack, withFrames, withLabel, withClearance, withNext}
+use Rattle.model.specs.declared.Account.{Account}
 use Rattle.model.specs.Effects.{Next, go, stop, fail, holding, sealOutcome, bodyControl, bodyAccount}
 use Rattle.store.specs.Records.{labelAt, valueAt, rewritten}
 use Rattle.operands.specs.Program.{program}
-use Rattle.operands.specs.Plans.{labelOf, faulty}
+use Rattle.operands.specs.Tasks.{labelOf, faulty}
 use Rattle.operands.specs.declared.Effect.{Effect}
 use Rattle.operands.specs.declared.Effect.the-variants.{Fault, Drop, Jump, Number as Gives, Handle as GivesHandle, Label as GivesLabel, Pair as GivesPair, Get, Set, Try, Done, End, Raise, Lower, Make, Write, Open, Block}
 use Rattle.operands.specs.declared.Decision.{Decision}

@@ -6,7 +6,8 @@ use Prim.Native.Nat.{ℕ, _+_}
 use lib.Dec.{leb, ltb, eqb}
 use Rattle.labels.specs.declared.Label.{Label}
 use Rattle.labels.specs.Order.{flows, join, meet}
-use Rattle.model.specs.State.{Account as Owned, Store, at}
+use Rattle.model.specs.State.{Store, at}
+use Rattle.model.specs.declared.Account.{Account}
 use Rattle.model.specs.Effects.{contentsOf}
 use Rattle.model.specs.Words.{labelIn}
 use Rattle.model.specs.declared.Kind.{Kind}
@@ -34,14 +35,9 @@ use Rattle.operands.specs.declared.OnHandle.{OnHandle}
 use Rattle.operands.specs.declared.OnHandle.the-variants.{Open as Opens, Label as LabelOf, Write as Writes}
 use Rattle.operands.specs.declared.LabelTask.{LabelTask}
 use Rattle.operands.specs.declared.LabelTask.the-variants.{Pair as OnPair, Label as ForLabel, Handle as ForHandle}
-use Rattle.operands.specs.declared.Plan.{Plan}
-use Rattle.operands.specs.declared.Plan.the-variants.{Do, Numbers, Labels}
-use Rattle.operands.specs.Plans.{decided, faulty, onNumbers, labelsOf}
-use Rattle.effects.specs.declared.Account.{Account}
-
--- the definition's account as the code has it
-abbrev pub lent : Owned → Account
-lent a = record { label = a .label; clearance = a .clearance; steps = a .steps; next = a .next; limit = a .limit; depth = a .depth }
+use Rattle.operands.specs.declared.Task.{Task}
+use Rattle.operands.specs.declared.Task.the-variants.{Do, Numbers, Labels}
+use Rattle.operands.specs.Tasks.{decided, faulty, onNumbers, labelsOf}
 
 -- ── the checks ──
 
@@ -136,8 +132,8 @@ onLabels (OnPair f) y x a σ = labelsOf f y x
 onLabels (ForLabel f) y x a σ = onLabel f y a
 onLabels (ForHandle f) y x a σ = onHandle f y a σ
 
--- what an instruction comes to, once its plan is made
-abbrev pub decisionOf : Plan → Datum → Datum → Account → Store → Decision
+-- what an instruction comes to, once its task is known
+abbrev pub decisionOf : Task → Datum → Datum → Account → Store → Decision
 decisionOf (Do d) y x a σ = d
 decisionOf (Numbers t) y x a σ = onNumbers t y x
 decisionOf (Labels t) y x a σ = onLabels t y x a σ
@@ -162,5 +158,5 @@ raisedBy label (ByRecord p) σ = join label (labelAt (at σ p))
 
 -- ── a block's outcome ──
 
-abbrev pub outcomeOf : Label → Ending → Label → Contents
-outcomeOf label e b = cond (flows label b) (contentsOf e) (Faulty 31 0)
+abbrev pub sealedOf : Label → Ending → Label → Contents
+sealedOf label e b = cond (flows label b) (contentsOf e) (Faulty 31 0)

@@ -1,5 +1,6 @@
 // What an instruction comes to on labels and records: faults 22 to 28, or an effect that says where things lie.
 use labels::Label;
+use model::Account;
 use model::Contents;
 use model::Datum;
 use model::Ending;
@@ -20,17 +21,7 @@ ghost use lib.ListN.{length, set};
 ghost use Rattle.model.specs.State.{at};
 ghost use Rattle.model.specs.Effects.{holding};
 ghost use Rattle.store.specs.Slots.{words, slots};
-ghost use Rattle.effects.specs.Decisions.{targetOf, risesOf, raiseOf, lowerOf, makeOf, roomOf, enterOf, withLabel, onLabel, isKind, openedOf, openOf, labelledOf, rewriteOf, writeOf, withHandle, onHandle, onLabels, labelFrom, pairedOf, raisedBy, outcomeOf};
-
-// The account of a run, as far as faults 23 to 28 look at it.
-pub struct Account {
-    pub label: Label,
-    pub clearance: Label,
-    pub steps: usize,
-    pub next: usize,
-    pub limit: usize,
-    pub depth: usize,
-}
+ghost use Rattle.effects.specs.Decisions.{targetOf, risesOf, raiseOf, lowerOf, makeOf, roomOf, enterOf, withLabel, onLabel, isKind, openedOf, openOf, labelledOf, rewriteOf, writeOf, withHandle, onHandle, onLabels, labelFrom, pairedOf, raisedBy, sealedOf};
 
 // ---- the checks
 
@@ -331,7 +322,7 @@ pub fn keep(kind: Kind, l: Label, d: Datum, p: usize, store: &mut [u64])
 
 // The contents of a block's outcome: 31 if the body's last label doesn't flow to the bound, however it ended.
 pub fn outcome(label: Label, e: Ending, b: Label) -> Contents
-    ensures { λ r. ⌜ r ≡ outcomeOf label e b ⌝ }
+    ensures { λ r. ⌜ r ≡ sealedOf label e b ⌝ }
 {
     if !labels::flows(label, b) {
         return Contents::Fault(31, 0);
@@ -346,7 +337,7 @@ pub fn outcome(label: Label, e: Ending, b: Label) -> Contents
 // Seals what a body came to, under its bound.
 pub fn conclude(b: Label, label: Label, e: Ending, p: usize, store: &mut [u64])
     requires { ⌜ length (now store) ≡ words ⌝ }
-    ensures { λ _. ⌜ slots (now (store .exit)) ≡ set (slots (now (store .entry))) p (holding Kind.Sealed b (outcomeOf label e b)) ⌝ }
+    ensures { λ _. ⌜ slots (now (store .exit)) ≡ set (slots (now (store .entry))) p (holding Kind.Sealed b (sealedOf label e b)) ⌝ }
 {
     store::save(
         store,

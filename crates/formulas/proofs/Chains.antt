@@ -7,6 +7,7 @@ use mathlib.Core.Logic.{_⊎_, inl, inr, ⊎-elim}
 use Prim.Native.Nat.{ℕ, zero, suc, _+_, _^_}
 use lib.Dec.{T, eqb, eqb→eq}
 use Rattle.formulas.specs.Formula.{implies}
+use Rattle.formulas.specs.Lists.{among}
 use Rattle.formulas.specs.Normal.{allBelow}
 use Rattle.formulas.proofs.Implication.{implies-trans}
 use Rattle.formulas.proofs.Tests.{T-left, T-right, T-or}
@@ -38,10 +39,6 @@ chains zero = (0 ∷ []) ∷ []
 chains (suc n) = grown (2 ^ n) (chains n)
 
 -- ---- tests on chains
-
-abbrev pub among : ℕ → List ℕ → Bool
-among c [] = false
-among c (d ∷ ds) = eqb c d || among c ds
 
 abbrev pub amongAny : ℕ → List (List ℕ) → Bool
 amongAny c [] = false

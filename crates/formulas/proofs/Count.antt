@@ -11,7 +11,8 @@ use lib.ListN.{length}
 use Rattle.formulas.specs.Formula.{implies}
 use Rattle.formulas.specs.Normal.{canonical, allBelow, consIf}
 use Rattle.formulas.proofs.Canonical.{Apart, canon-lt, canon-apart, canon-asc}
-use Rattle.formulas.proofs.Chains.{chains, among, amongAny, linked, allLinked, among-mem, comparable, chained}
+use Rattle.formulas.specs.Lists.{among}
+use Rattle.formulas.proofs.Chains.{chains, amongAny, linked, allLinked, among-mem, comparable, chained}
 use Rattle.formulas.proofs.Lists.{Asc, allBelow-at, consIf-cases, consIf-asc}
 use Rattle.formulas.proofs.Tests.{T-left, T-right, T-or, T-eq}
 

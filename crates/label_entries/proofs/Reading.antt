@@ -11,7 +11,7 @@ use Rattle.formulas.specs.Formula.{table}
 use Rattle.formulas.specs.Normal.{canonical}
 use Rattle.formulas.proofs.Tests.{T-and, T-left, T-right, T-same, T-eq, T-true}
 use Rattle.labels.specs.Order.{label}
-use Rattle.label_entries.specs.Entry.{secrecyMasks, integrityMasks, entryLength, wellFormed, readFormula, readEntry}
+use Rattle.label_entries.specs.Entries.{secrecyMasks, integrityMasks, entryLength, wellFormed, readFormula, readEntry}
 use Rattle.labels.specs.declared.Label.{Label}
 use Rattle.label_entries.specs.declared.Entry.{Entry}
 use Rattle.label_entries.specs.declared.Entry.the-variants.{Read, Malformed}

@@ -14,7 +14,7 @@ use Rattle.formulas.specs.Normal.{canonical, clauses}
 use Rattle.formulas.proofs.Clauses.{clauses-table}
 use Rattle.formulas.proofs.Normal.{normal, at-most-20-clauses}
 use Rattle.labels.specs.Order.{label, Arising}
-use Rattle.label_entries.specs.Entry.{secrecyMasks, integrityMasks, entryLength, readEntry, entryBytes, fits, writeAnswer, writeBuffer}
+use Rattle.label_entries.specs.Entries.{secrecyMasks, integrityMasks, entryLength, readEntry, entryBytes, fits, writeAnswer, writeBuffer}
 use Rattle.labels.specs.declared.Label.{Label}
 use Rattle.label_entries.specs.declared.Entry.the-variants.{Read}
 use Rattle.label_entries.specs.declared.Written.the-variants.{Bytes, TooShort}

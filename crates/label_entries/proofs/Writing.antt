@@ -9,7 +9,7 @@ use borrow.Rule.Slice.PartMut.{putMid}
 use lib.ListN.{length, drop, set, length-append}
 use lib.Seq.{take-at, drop-at, drop-drop, drop-append-add}
 use Rattle.formulas.specs.Normal.{clauses}
-use Rattle.label_entries.specs.Entry.{entryBytes, fits, writeAnswer, writeBuffer}
+use Rattle.label_entries.specs.Entries.{entryBytes, fits, writeAnswer, writeBuffer}
 use Rattle.labels.specs.declared.Label.{Label}
 use Rattle.label_entries.specs.declared.Written.the-variants.{Bytes, TooShort}
 

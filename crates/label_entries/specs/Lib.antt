@@ -1,2 +1,2 @@
 -- The definitions that the contracts of `label_entries` cite.
-pub mod Entry
+pub mod Entries

@@ -7,7 +7,7 @@ ghost use lib.ListN.{length, drop};
 ghost use Rattle.formulas.specs.Bits.{bit};
 ghost use Rattle.formulas.specs.Formula.{table};
 ghost use Rattle.formulas.specs.Normal.{leads, canonical, passesWith, maximalFalse, clauses};
-ghost use Rattle.label_entries.specs.Entry.{readFormula, readEntry, writeAnswer, writeBuffer};
+ghost use Rattle.label_entries.specs.Entries.{readFormula, readEntry, writeAnswer, writeBuffer};
 
 // What reading a label entry finds.
 pub enum Entry {

@@ -16,24 +16,24 @@ use Rattle.model.specs.declared.Frame.{Frame}
 use Rattle.model.specs.declared.Contents.the-variants.{Value as Holds}
 use Rattle.model.specs.declared.Ending.{Ending}
 use Rattle.model.specs.declared.Ending.the-variants.{Result, Fault as Faulted}
-use Rattle.model.specs.State.{Control, Account, Store, Outcome, at, number, value, push, withFrames, withLabel, withNext}
-use Rattle.model.specs.Effects.{go, fail, failTo, holding, outcome, sealOutcome}
+use Rattle.model.specs.State.{Control, Store, Outcome, at, number, value, push, withFrames, withLabel, withNext}
+use Rattle.model.specs.declared.Account.{Account}
+use Rattle.model.specs.Effects.{go, fail, failTo, holding, outcome, bodyAccount, sealOutcome}
 use Rattle.model.specs.Running.{runs}
 use Rattle.store.specs.Records.{labelAt, valueAt, rewritten}
 use Rattle.operands.specs.Program.{program}
-use Rattle.operands.specs.Plans.{labelOf}
+use Rattle.operands.specs.Tasks.{labelOf}
 use Rattle.operands.specs.declared.By.{By}
 use Rattle.operands.specs.declared.Origin.{Origin}
 use Rattle.operands.specs.declared.Both.{Both}
 use Rattle.operands.specs.declared.Effect.{Effect}
 use Rattle.operands.specs.declared.Effect.the-variants.{Fault, Drop, Jump, Number as Gives, Handle as GivesHandle, Label as GivesLabel, Pair as GivesPair, Get, Set, Try, Done, End, Raise, Lower, Make, Write, Open, Block}
-use Rattle.effects.specs.declared.Account.{Account as Lent}
-use Rattle.effects.specs.Decisions.{lent, labelFrom, pairedOf, raisedBy, outcomeOf as sealedOf}
+use Rattle.effects.specs.Decisions.{labelFrom, pairedOf, raisedBy, sealedOf}
 use Rattle.effects.proofs.Taking.{settle, Cleared}
 use Rattle.machine.specs.declared.State.{State}
-use Rattle.machine.specs.declared.Finished.{Finished}
+use Rattle.model.specs.declared.Finished.{Finished}
 use Rattle.machine.specs.State.{no-frame, Ok, Live, control, account, Ran, pushed, raised, ended, caught, handled}
-use Rattle.machine.specs.Steps.{Finishes, owned, borne, begun}
+use Rattle.machine.specs.Steps.{Finishes, begun}
 use Rattle.machine.proofs.Stack.{drop-one, drop-none, drop-cut}
 use Rattle.machine.proofs.Methods.{relabelled, lowered, taken, jumped, with-locals, framed, unframed, ok-pushed, control-pushed, ok-kept, ok-framed, control-framed, next-live, Room, roomy}
 
@@ -206,14 +206,14 @@ module _ (z : Decided) where
   left n j = record { stack = set (s .stack) (s .top - 1) (value (Handle Sealed (s .next))); top = s .top - 1; locals = s .locals; frames = s .frames; newest = s .newest; label = s .label; clearance = s .clearance; steps = s .steps - n; next = s .next + 1 + j; limit = s .limit; depth = s .depth; pc = s .pc; progress = s .progress }
 
   -- a body that has run, with the records τ, and whose outcome is sealed, with the records υ
-  pub does-block : (t n j : ℕ) (τ υ : Store) (b : Label) (a : Lent) (q : Finished) → Cleared (control s) (account s) n j → b ≡ labelOf y → a ≡ borne n j (lent (account s))
-      → Finishes q τ (runs (program code ws rs) (begun t (s .locals)) (owned a) σ) → υ ≡ set τ (s .next) (holding Sealed b (sealedOf (q .label) (q .ending) b))
+  pub does-block : (t n j : ℕ) (τ υ : Store) (b : Label) (a : Account) (q : Finished) → Cleared (control s) (account s) n j → b ≡ labelOf y → a ≡ bodyAccount n j (account s)
+      → Finishes q τ (runs (program code ws rs) (begun t (s .locals)) a σ) → υ ≡ set τ (s .next) (holding Sealed b (sealedOf (q .label) (q .ending) b))
       → Settled (left n j) υ (Block t n j)
   unfolding outcome program
   does-block t n j τ υ b a q c eb ea ran eu =
       let w : Room s 1 0 0 0 = roomy s o (c .fits) in
       let d : Datum = Handle Sealed (s .next) in
-      let q0 : Outcome = runs (program code ws rs) (begun t (s .locals)) (owned a) σ in
+      let q0 : Outcome = runs (program code ws rs) (begun t (s .locals)) a σ in
       let ac : Account = account (left n j) in
       let m = o .places .most in
       rw (← eb)
@@ -225,5 +225,5 @@ module _ (z : Decided) where
             ∙ ap (λ (v : Label). go (push d (control s)) ac (set τ (s .next) (holding Sealed b (sealedOf v (q .ending) b)))) (sym (ran .label))
             ∙ ap (λ (v : Ending). go (push d (control s)) ac (set τ (s .next) (holding Sealed b (sealedOf (q0 .account .label) v b)))) (sym (ran .ending))
             ∙ ap (λ (v : Store). go (push d (control s)) ac (set v (s .next) (holding Sealed b (sealedOf (q0 .account .label) (q0 .ending) b)))) (sym (ran .store))
-            ∙ ap (λ (v : Lent). sealOutcome (program code ws rs) (control s) (account s) b n j (runs (program code ws rs) (begun t (s .locals)) (owned v) σ)) ea;
+            ∙ ap (λ (v : Account). sealOutcome (program code ws rs) (control s) (account s) b n j (runs (program code ws rs) (begun t (s .locals)) v σ)) ea;
       })

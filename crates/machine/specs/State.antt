@@ -13,7 +13,8 @@ use Rattle.model.specs.declared.Value.{Value}
 use Rattle.model.specs.declared.Frame.{Frame}
 use Rattle.model.specs.declared.Ending.{Ending}
 use Rattle.model.specs.declared.Ending.the-variants.{Spent}
-use Rattle.model.specs.State.{Control, Account, Store, Outcome, number}
+use Rattle.model.specs.State.{Control, Store, Outcome, number}
+use Rattle.model.specs.declared.Account.{Account}
 use Rattle.model.specs.Effects.{Next, go, stop}
 use Rattle.machine.specs.declared.Status.{Status}
 use Rattle.machine.specs.declared.Status.the-variants.{Running, Ended}

@@ -4,14 +4,12 @@ use mathlib.Core.List.{List, []}
 use Prim.Native.Nat.{ℕ, _^_, _<_}
 use lib.ListN.{length, replicate}
 use Rattle.model.specs.declared.Value.{Value}
-use Rattle.model.specs.State.{Control, Account, Store, Outcome, number}
-use Rattle.model.specs.Effects.{bodyAccount}
+use Rattle.model.specs.State.{Control, Store, Outcome, number}
+use Rattle.model.specs.declared.Account.{Account}
 use Rattle.store.specs.Slots.{words}
-use Rattle.effects.specs.declared.Account.{Account as Lent}
-use Rattle.effects.specs.Decisions.{lent}
 use Rattle.machine.specs.declared.Status.the-variants.{Running}
 use Rattle.machine.specs.declared.State.{State}
-use Rattle.machine.specs.declared.Finished.{Finished}
+use Rattle.model.specs.declared.Finished.{Finished}
 use Rattle.machine.specs.State.{no-frame}
 
 -- the lengths that the code relies on
@@ -22,19 +20,11 @@ pub record Sizes (c w s : List ℕ) : Type 0 where
 
 -- ── the start ──
 
--- the definition's account, of the code's
-abbrev pub owned : Lent → Account
-owned a = record { label = a .label; clearance = a .clearance; steps = a .steps; next = a .next; limit = a .limit; depth = a .depth }
-
--- the account that a block's body starts with
-abbrev pub borne : ℕ → ℕ → Lent → Lent
-borne n k a = lent (bodyAccount n k (owned a))
-
 -- at pc, with these locals, an empty stack and no frames
 abbrev pub begun : ℕ → List Value → Control
 begun pc locals = record { pc = pc; stack = []; locals = locals; frames = [] }
 
-abbrev pub fresh : ℕ → List Value → Lent → State
+abbrev pub fresh : ℕ → List Value → Account → State
 fresh pc locals a =
     record {
       stack = replicate 32 (number 0);

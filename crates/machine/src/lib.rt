@@ -1,23 +1,24 @@
 // The run state, passed and returned by value, and the interpreter. The records are lent beside it, as words: the state
 // is copied, and 256 records in it would be copied too.
-use effects::Account;
 use labels::Label;
+use model::Account;
 use model::Datum;
 use model::Ending;
+use model::Finished;
 use model::Frame;
 use model::Kind;
 use model::Value;
 use operands::Effect;
-use operands::Plan;
+use operands::Task;
 ghost use mathlib.Core.Path.{_≡_};
 ghost use Prim.Native.Nat.{_+_, _-_, _*_, _^_, _≤_, _<_, min};
 ghost use lib.ListN.{length};
+ghost use Rattle.model.specs.Effects.{bodyAccount};
 ghost use Rattle.model.specs.Running.{runs, startControl, startAccount};
 ghost use Rattle.operands.specs.Program.{program, count};
 ghost use Rattle.store.specs.Slots.{words, slots};
-ghost use Rattle.effects.specs.Decisions.{lent};
 ghost use Rattle.machine.specs.State.{Ok, Ran, account, nextOf, endingOf, isLive, popped, pushed, raised, charged, ended, handled};
-ghost use Rattle.machine.specs.Steps.{Sizes, Finishes, owned, begun, borne, fresh};
+ghost use Rattle.machine.specs.Steps.{Sizes, Finishes, begun, fresh};
 ghost use Rattle.machine.specs.Turns.{readyOf, turns};
 
 pub enum Status {
@@ -48,15 +49,6 @@ pub struct State {
     pub depth: usize,
     pub pc: usize,
     pub progress: Progress,
-}
-
-// What a run leaves.
-pub struct Finished {
-    pub ending: Ending,
-    pub label: Label,
-    pub clearance: Label,
-    pub steps: usize,
-    pub next: usize,
 }
 
 // How a run ended.
@@ -137,7 +129,7 @@ impl State {
     }
 
     fn account(self) -> Account
-        ensures { λ r. ⌜ r ≡ lent (account self) ⌝ }
+        ensures { λ r. ⌜ r ≡ account self ⌝ }
     {
         let label = self.label;
         let clearance = self.clearance;
@@ -154,7 +146,7 @@ impl State {
     // The account that a block's body starts with: n steps, k places behind its outcome's.
     fn inside(self, n: usize, k: usize) -> Account
         requires { ⌜ (self .depth < 8) × (self .next + 1 + k ≤ 256) ⌝ }
-        ensures { λ r. ⌜ r ≡ borne n k (lent (account self)) ⌝ }
+        ensures { λ r. ⌜ r ≡ bodyAccount n k (account self) ⌝ }
     {
         let label = self.label;
         let clearance = self.clearance;
@@ -224,16 +216,16 @@ impl State {
             let i = f.instr;
             self.pc = after;
             // Decide,
-            let d = match operands::plan_of(i, height, frames, records) {
-                Plan::Do(d) => d,
-                Plan::Numbers(t) => {
+            let d = match operands::task_of(i, height, frames, records) {
+                Task::Do(d) => d,
+                Task::Numbers(t) => {
                     let v = self.stack[first];
                     let u = self.stack[second];
                     let y = v.datum;
                     let x = u.datum;
                     operands::on_numbers(t, y, x)
                 }
-                Plan::Labels(t) => {
+                Task::Labels(t) => {
                     let v = self.stack[first];
                     let u = self.stack[second];
                     let y = v.datum;
@@ -403,7 +395,7 @@ pub fn run(
     store: &mut [u64],
 ) -> Finished
     requires { ⌜ (length locals ≡ 16) × (a .next ≤ a .limit) × (a .limit ≤ 256) × Sizes (now code) (now labels) (now store) ⌝ }
-    ensures { λ r. ⌜ Finishes r (slots (now (store .exit))) (runs (program (now (code .entry)) (now (labels .entry)) (now (records .entry))) (begun pc locals) (owned a) (slots (now (store .entry)))) ⌝ }
+    ensures { λ r. ⌜ Finishes r (slots (now (store .exit))) (runs (program (now (code .entry)) (now (labels .entry)) (now (records .entry))) (begun pc locals) a (slots (now (store .entry)))) ⌝ }
 {
     let s = start(pc, locals, a);
     let left = a.steps;

@@ -2,7 +2,8 @@
 use mathlib.Core.Bool.{Bool, true, false, true≢false}
 use mathlib.Core.Path.{_≡_, refl, sym, ap, _∙_, subst}
 use Rattle.labels.specs.declared.Label.{Label}
-use Rattle.model.specs.State.{Account, Store, Program, Outcome}
+use Rattle.model.specs.State.{Store, Program, Outcome, shown}
+use Rattle.model.specs.declared.Account.{Account}
 use Rattle.model.specs.Effects.{holding, contentsOf, outcome}
 use Rattle.model.specs.declared.Kind.the-variants.{Sealed}
 use Rattle.model.specs.declared.Contents.{Contents}
@@ -10,7 +11,7 @@ use Rattle.model.specs.declared.Contents.the-variants.{Fault}
 use Rattle.model.specs.declared.Ending.{Ending}
 use Rattle.model.specs.declared.Ending.the-variants.{Result, Fault as Faulted, Spent}
 use Rattle.model.proofs.Tests.{cond-one}
-use Rattle.model.proofs.Kept.{LowSet, visible, unseen}
+use Rattle.model.proofs.Kept.{LowSet, unseen}
 use Rattle.model.proofs.LowEquivalence.{SharedContents, SharedSlot, SharedEnding, Ends, together, apart, shared-visible}
 
 module _ (P : Program) (Low : Label → Bool) (D : LowSet P Low) where
@@ -34,9 +35,9 @@ module _ (P : Program) (Low : Label → Bool) (D : LowSet P Low) where
 
   -- Under a bound that the observer sees, bodies that ended apart give fault 31, both; under any other no outcome is seen.
   pub outcome-visible : (b : Label) (σ τ : Store) (e f : Ending) (a c : Account) → Ends Low σ τ e a f c
-      → (visible Low (holding Sealed b (outcome P b (record { ending = e; account = a; store = σ })))
-      ≡ visible Low (holding Sealed b (outcome P b (record { ending = f; account = c; store = τ }))))
-      × SharedSlot σ τ (visible Low (holding Sealed b (outcome P b (record { ending = e; account = a; store = σ }))))
+      → (shown Low (holding Sealed b (outcome P b (record { ending = e; account = a; store = σ })))
+      ≡ shown Low (holding Sealed b (outcome P b (record { ending = f; account = c; store = τ }))))
+      × SharedSlot σ τ (shown Low (holding Sealed b (outcome P b (record { ending = e; account = a; store = σ }))))
   unfolding outcome
   outcome-visible b σ τ e f a c (together h) =
       (refl, shared-visible P Low σ τ Sealed b _ (cond-one (SharedContents σ τ) (P .flows (a .label) b) (λ _. shared-ending σ τ e h) (λ _. tt)))
@@ -48,10 +49,10 @@ module _ (P : Program) (Low : Label → Bool) (D : LowSet P Low) where
       q : Outcome
       q = record { ending = f; account = c; store = τ }
 
-      bound : (t : Bool) → Low b ≡ t → (visible Low (holding Sealed b (outcome P b o)) ≡ visible Low (holding Sealed b (outcome P b q)))
-          × SharedSlot σ τ (visible Low (holding Sealed b (outcome P b o)))
+      bound : (t : Bool) → Low b ≡ t → (shown Low (holding Sealed b (outcome P b o)) ≡ shown Low (holding Sealed b (outcome P b q)))
+          × SharedSlot σ τ (shown Low (holding Sealed b (outcome P b o)))
       bound true e = (
-        ap (λ (x : Contents). visible Low (holding Sealed b x)) (above b o u e ∙ sym (above b q v e)),
+        ap (λ (x : Contents). shown Low (holding Sealed b x)) (above b o u e ∙ sym (above b q v e)),
         shared-visible P Low σ τ Sealed b (outcome P b o) (subst (SharedContents σ τ) (sym (above b o u e)) tt),
       )
       bound false e = (

@@ -3,7 +3,8 @@ use mathlib.Core.Path.{_≡_, refl, _∙_}
 use Prim.Native.Nat.{ℕ, zero, suc, _+_, _≤_}
 use native.Mathlib.Nat.{le-refl}
 use native.Mathlib.Omega.{arith}
-use Rattle.model.specs.State.{Control, Account, Store, Program, withSteps}
+use Rattle.model.specs.State.{Control, Store, Program, withSteps}
+use Rattle.model.specs.declared.Account.{Account}
 use Rattle.model.specs.Effects.{Next, go, stop}
 use Rattle.model.specs.Running.{step, resume, pay, run, runs}
 use Rattle.model.proofs.Effects.{accountOf, Runs, run-of}

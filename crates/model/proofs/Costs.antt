@@ -6,7 +6,8 @@ use native.Mathlib.Omega.{arith}
 use lib.Dec.{leb, ltb}
 use borrow.Author.Tests.{leb-true}
 use Rattle.labels.specs.declared.Label.{Label}
-use Rattle.model.specs.State.{Control, Account, Store, Program, Runner, at, jump, withSteps}
+use Rattle.model.specs.State.{Control, Store, Program, Runner, at, jump, withSteps}
+use Rattle.model.specs.declared.Account.{Account}
 use Rattle.model.specs.Operands.{Request, none, ends, throws, raises, lowers, labels, opens, makes, writes, blocks, Plan, faults, asks, plan}
 use Rattle.model.specs.Effects.{Next, fail, checkTarget, raised, openSlot, labelSlot, writeSlot, act}
 use Rattle.model.specs.Running.{perform, step}

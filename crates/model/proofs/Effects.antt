@@ -8,7 +8,8 @@ use lib.Dec.{leb, ltb}
 use borrow.Author.Tests.{ltb-true, leb-true}
 use lib.ListN.{set}
 use Rattle.labels.specs.declared.Label.{Label}
-use Rattle.model.specs.State.{Control, Account, Store, Program, Outcome, Runner, at, jump, withClearance, withSteps, withNext}
+use Rattle.model.specs.State.{Control, Store, Program, Outcome, Runner, at, jump, withClearance, withSteps, withNext}
+use Rattle.model.specs.declared.Account.{Account}
 use Rattle.model.specs.Operands.{Request, none, ends, throws, raises, lowers, labels, opens, makes, writes, blocks, Plan, faults, asks, plan}
 use Rattle.model.specs.Effects.{Next, go, stop, failTo, fail, checkTarget, raised, holding, yield, openSlot, labelSlot, writeSlot, bodyControl, bodyAccount, act}
 use Rattle.model.specs.Running.{perform, step, resume, pay, run}

@@ -7,7 +7,8 @@ use native.Mathlib.Nat.{le-refl}
 use native.Mathlib.Omega.{arith}
 use lib.Dec.{leb, ltb}
 use borrow.Author.Tests.{leb-true}
-use Rattle.model.specs.State.{Control, Account, Store, Program, Outcome, Runner, jump, withSteps}
+use Rattle.model.specs.State.{Control, Store, Program, Outcome, Runner, jump, withSteps}
+use Rattle.model.specs.declared.Account.{Account}
 use Rattle.model.specs.Operands.{Request, none, ends, throws, raises, lowers, labels, opens, makes, writes, blocks, Plan, faults, asks, plan}
 use Rattle.model.specs.Effects.{Next, go, stop, fail, bodyControl, bodyAccount, sealOutcome, act}
 use Rattle.model.specs.Running.{perform, step, resume, pay, run, runs}

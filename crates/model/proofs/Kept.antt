@@ -5,7 +5,8 @@ use Prim.Native.Nat.{ℕ, _+_, _-_, _≤_, _<_}
 use native.Mathlib.Omega.{arith}
 use lib.ListN.{length, set, length-set}
 use Rattle.labels.specs.declared.Label.{Label}
-use Rattle.model.specs.State.{Control, Account, Store, Program, Runner, at, withSteps, withNext}
+use Rattle.model.specs.State.{Control, Store, Program, Runner, at, withSteps, withNext, shown}
+use Rattle.model.specs.declared.Account.{Account}
 use Rattle.model.specs.Effects.{Next, holding, bodyAccount}
 use Rattle.model.specs.Running.{step, resume, run}
 use Rattle.model.specs.declared.Kind.{Kind}
@@ -26,11 +27,6 @@ pub record LowSet (P : Program) (Low : Label → Bool) : Type 0 where
   pub down : (l m : Label) → P .flows l m ≡ true → Low m ≡ true → Low l ≡ true
   pub join-left : (l m : Label) → P .flows l (P .join l m) ≡ true
   pub join-right : (l m : Label) → P .flows m (P .join l m) ≡ true
-
--- a place as the observer sees it: a record whose label is not in the set is not there
-unfoldable pub visible : (Label → Bool) → Slot → Slot
-visible Low Empty = Empty
-visible Low (Full x) = cond (Low (x .label)) (Full x) Empty
 
 -- a record without its contents
 unfoldable pub shell : Slot → Slot
@@ -55,7 +51,7 @@ pub record Kept (Low : Label → Bool) (a : Account) (σ : Store) (b : Account) 
   pub shells : (p : ℕ) → ¬ Allotted a p → shell (at σ p) ≡ shell (at τ p)
   -- a label that is not in the set stays so, and under it the observer sees nothing change
   pub stays : Low (a .label) ≡ false → Low (b .label) ≡ false
-  pub hides : Low (a .label) ≡ false → (p : ℕ) → visible Low (at σ p) ≡ visible Low (at τ p)
+  pub hides : Low (a .label) ≡ false → (p : ℕ) → shown Low (at σ p) ≡ shown Low (at τ p)
 
 -- ── the proof, by effects ──
 
@@ -64,8 +60,8 @@ unfolding shell
 shell-empty Empty e = refl
 shell-empty (Full x) e = cc
 
-pub unseen : (Low : Label → Bool) (h : Kind) (l : Label) (x : Contents) → Low l ≡ false → visible Low (holding h l x) ≡ Empty
-unfolding visible
+pub unseen : (Low : Label → Bool) (h : Kind) (l : Label) (x : Contents) → Low l ≡ false → shown Low (holding h l x) ≡ Empty
+unfolding shown
 unseen Low h l x e = rw e
 
 module _ (P : Program) (Low : Label → Bool) (D : LowSet P Low) where
@@ -111,8 +107,8 @@ module _ (P : Program) (Low : Label → Bool) (D : LowSet P Low) where
         sized = sym (length-set σ p new);
         shells = λ q n. after-set (λ r z. shell (at σ r) ≡ shell z) σ p new Empty (λ r _. refl) (ap shell e) refl q;
         stays = λ u. u;
-        hides = λ u q. after-set (λ r z. visible Low (at σ r) ≡ visible Low z) σ p new Empty (λ r _. refl)
-            (ap (visible Low) e ∙ unseen Low (x .kind) (x .label) (x .contents) (up (a .label) (x .label) f u)
+        hides = λ u q. after-set (λ r z. shown Low (at σ r) ≡ shown Low z) σ p new Empty (λ r _. refl)
+            (ap (shown Low) e ∙ unseen Low (x .kind) (x .label) (x .contents) (up (a .label) (x .label) f u)
             ∙ sym (unseen Low (x .kind) (x .label) y (up (a .label) (x .label) f u))) refl q;
       }
     where
@@ -127,7 +123,7 @@ module _ (P : Program) (Low : Label → Bool) (D : LowSet P Low) where
       → a .next < b .next → b .limit ≤ a′ .next → a .next < a′ .next → a′ .limit ≤ a .limit → b .limit ≤ a .limit → a .next < a .limit
       → a′ .label ≡ a .label → b .label ≡ a .label → P .flows (a .label) l ≡ true
       → Kept Low a σ a′ (set τ (a .next) (holding h l x))
-  unfolding shell visible
+  unfolding shell shown
   seal-kept a b b′ a′ σ τ h l x fr k c1 c2 c3 c4 c5 c6 e1 e2 f =
       record {
         within = λ p i. omega arith;
@@ -143,9 +139,9 @@ module _ (P : Program) (Low : Label → Bool) (D : LowSet P Low) where
             (λ m. absurd (m (omega arith)))
             (λ m. absurd (m (omega arith))) p n;
         stays = λ u. rw e1 u;
-        hides = λ u p. after-set (λ q z. visible Low (at σ q) ≡ visible Low z) τ (a .next) (holding h l x) Empty
+        hides = λ u p. after-set (λ q z. shown Low (at σ q) ≡ shown Low z) τ (a .next) (holding h l x) Empty
             (λ q _. k .hides (rw e2 u) q)
-            (ap (visible Low) (fr (a .next) (omega arith) .1) ∙ sym (unseen Low h l x (up (a .label) l f u)))
+            (ap (shown Low) (fr (a .next) (omega arith) .1) ∙ sym (unseen Low h l x (up (a .label) l f u)))
             (k .hides (rw e2 u) (a .next)) p;
       }
 

@@ -5,7 +5,8 @@ use Prim.Native.Nat.{ℕ, _+_, _-_}
 use lib.Dec.{leb, ltb, eqb}
 use lib.ListN.{length}
 use Rattle.labels.specs.declared.Label.{Label}
-use Rattle.model.specs.State.{Control, Account, Store, Program, Runner, at, jump, withStack}
+use Rattle.model.specs.State.{Control, Store, Program, Runner, at, jump, withStack}
+use Rattle.model.specs.declared.Account.{Account}
 use Rattle.model.specs.Operands.{Request, none, ends, throws, raises, lowers, labels, opens, makes, writes, blocks, Plan, faults, asks, popFrom, asNumber, asLabel, pop, popNumber, popLabel, arity, dropFrame, operate, plan}
 use Rattle.model.specs.Effects.{Next, go, stop, failTo, fail, checkTarget, raised, yield, openSlot, labelSlot, writeSlot, act}
 use Rattle.model.specs.Running.{perform, step}

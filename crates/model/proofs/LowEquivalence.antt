@@ -7,7 +7,8 @@ use native.Mathlib.Omega.{arith}
 use lib.ListN.{length, set, length-set}
 use lib.Seq.{getD-set-same}
 use Rattle.labels.specs.declared.Label.{Label}
-use Rattle.model.specs.State.{Control, Account, Store, Program, Outcome, at}
+use Rattle.model.specs.State.{Control, Store, Program, Outcome, at, shown}
+use Rattle.model.specs.declared.Account.{Account}
 use Rattle.model.specs.Effects.{Next, go, stop, holding}
 use Rattle.model.specs.declared.Kind.{Kind}
 use Rattle.model.specs.declared.Datum.{Datum}
@@ -20,7 +21,7 @@ use Rattle.model.specs.declared.Ending.the-variants.{Result, Fault as Fa
 use Rattle.model.proofs.Tests.{cond-one}
 use Rattle.model.proofs.Places.{after-sets}
 use Rattle.model.proofs.Effects.{accountOf, storeOf}
-use Rattle.model.proofs.Kept.{visible, shell, Fresh, Kept}
+use Rattle.model.proofs.Kept.{shell, Fresh, Kept}
 use Rattle.model.proofs.Plans.{Points, All, all-wider, points-wider, Reach}
 
 -- ── the relation ──
@@ -48,9 +49,9 @@ SharedEnding σ τ Spent = Unit {0}
 
 -- Two stores in which an observer of the labels in Low sees the same
 pub record LowEquivalent (P : Program) (Low : Label → Bool) (σ τ : Store) : Type 0 where
-  pub alike : (p : ℕ) → visible Low (at σ p) ≡ visible Low (at τ p)
-  -- handles in what is visible, and those of the input records, are to twins
-  pub shared : (p : ℕ) → SharedSlot σ τ (visible Low (at σ p))
+  pub alike : (p : ℕ) → shown Low (at σ p) ≡ shown Low (at τ p)
+  -- handles in what is shown, and those of the input records, are to twins
+  pub shared : (p : ℕ) → SharedSlot σ τ (shown Low (at σ p))
   pub inputs : All (Twin σ τ) (P .inputs)
   pub sized : length σ ≡ length τ
 
@@ -123,7 +124,7 @@ module _ (P : Program) (Low : Label → Bool) where
   equivalent-apart a b a′ b′ σ τ σ′ τ′ f g k m u v s =
       record {
         alike = λ p. sym (k .hides u p) ∙ s .alike p ∙ m .hides v p;
-        shared = λ p. subst (SharedSlot σ′ τ′) (k .hides u p) (shared-grows σ τ σ′ τ′ gr (visible Low (at σ p)) (s .shared p));
+        shared = λ p. subst (SharedSlot σ′ τ′) (k .hides u p) (shared-grows σ τ σ′ τ′ gr (shown Low (at σ p)) (s .shared p));
         inputs = all-wider (Twin σ τ) (Twin σ′ τ′) gr (P .inputs) (s .inputs);
         sized = sym (k .sized) ∙ s .sized ∙ m .sized;
       }
@@ -133,8 +134,8 @@ module _ (P : Program) (Low : Label → Bool) where
 
   -- a store of two records that the observer can't tell apart
   pub equivalent-set : (σ τ : Store) (p : ℕ) (h : Kind) (l : Label) (x y : Contents) → LowEquivalent P Low σ τ
-      → visible Low (holding h l x) ≡ visible Low (holding h l y)
-      → SharedSlot (set σ p (holding h l x)) (set τ p (holding h l y)) (visible Low (holding h l x))
+      → shown Low (holding h l x) ≡ shown Low (holding h l y)
+      → SharedSlot (set σ p (holding h l x)) (set τ p (holding h l y)) (shown Low (holding h l x))
       → LowEquivalent P Low (set σ p (holding h l x)) (set τ p (holding h l y))
   equivalent-set σ τ p h l x y s e o =
       record {
@@ -153,13 +154,13 @@ module _ (P : Program) (Low : Label → Bool) where
       gr : Grows σ τ σ′ τ′
       gr = grows-set σ τ p h l x y (s .sized)
 
-      old : (q : ℕ) → (visible Low (at σ q) ≡ visible Low (at τ q)) × SharedSlot σ′ τ′ (visible Low (at σ q))
-      old q = (s .alike q, shared-grows σ τ σ′ τ′ gr (visible Low (at σ q)) (s .shared q))
+      old : (q : ℕ) → (shown Low (at σ q) ≡ shown Low (at τ q)) × SharedSlot σ′ τ′ (shown Low (at σ q))
+      old q = (s .alike q, shared-grows σ τ σ′ τ′ gr (shown Low (at σ q)) (s .shared q))
 
-      both : (q : ℕ) → (visible Low (at σ′ q) ≡ visible Low (at τ′ q)) × SharedSlot σ′ τ′ (visible Low (at σ′ q))
-      both = after-sets (λ q u v. (visible Low u ≡ visible Low v) × SharedSlot σ′ τ′ (visible Low u)) σ τ p (holding h l x) (holding h l y) Empty
+      both : (q : ℕ) → (shown Low (at σ′ q) ≡ shown Low (at τ′ q)) × SharedSlot σ′ τ′ (shown Low (at σ′ q))
+      both = after-sets (λ q u v. (shown Low u ≡ shown Low v) × SharedSlot σ′ τ′ (shown Low u)) σ τ p (holding h l x) (holding h l y) Empty
           (s .sized) (λ q _. old q) (e, o) (old p)
 
-  pub shared-visible : (σ τ : Store) (h : Kind) (l : Label) (x : Contents) → SharedContents σ τ x → SharedSlot σ τ (visible Low (holding h l x))
-  unfolding visible
+  pub shared-visible : (σ τ : Store) (h : Kind) (l : Label) (x : Contents) → SharedContents σ τ x → SharedSlot σ τ (shown Low (holding h l x))
+  unfolding shown
   shared-visible σ τ h l x o = cond-one (SharedSlot σ τ) (Low l) (λ _. o) (λ _. tt)

@@ -6,7 +6,8 @@ use mathlib.Core.Path.{_≡_, ap, subst}
 use Prim.Native.Nat.{ℕ, suc, _+_, _≤_}
 use native.Mathlib.Omega.{arith}
 use Rattle.labels.specs.declared.Label.{Label}
-use Rattle.model.specs.State.{Control, Account, Store, Program, at, jump, withSteps}
+use Rattle.model.specs.State.{Control, Store, Program, at, jump, withSteps}
+use Rattle.model.specs.declared.Account.{Account}
 use Rattle.model.specs.Operands.{Request, none, ends, throws, raises, lowers, labels, opens, makes, writes, blocks, Plan, asks, plan}
 use Rattle.model.specs.Effects.{Next, go, stop, bodyControl, bodyAccount}
 use Rattle.model.specs.Running.{step, runs}

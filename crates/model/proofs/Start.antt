@@ -7,7 +7,7 @@ use Prim.Native.Nat.{ℕ, zero, suc, _+_, _-_, _≤_, _<_}
 use native.Mathlib.Omega.{arith}
 use lib.ListN.{length, replicate, length-append, length-replicate}
 use Rattle.labels.specs.declared.Label.{Label}
-use Rattle.model.specs.State.{Store, Program, at, value, number}
+use Rattle.model.specs.State.{Store, Program, at, value, number, shown}
 use Rattle.model.specs.Inputs.{Input, inputs, handles, recordOf, inputSlots}
 use Rattle.model.specs.Running.{runs, startControl, startAccount, startStore}
 use Rattle.model.specs.declared.Kind.{Kind}
@@ -17,7 +17,7 @@ use Rattle.model.specs.declared.Contents.the-variants.{Value as Holds}
 use Rattle.model.specs.declared.Slot.{Slot}
 use Rattle.model.specs.declared.Slot.the-variants.{Empty, Full}
 use Rattle.model.proofs.Places.{blank}
-use Rattle.model.proofs.Kept.{LowSet, visible, shell, Fresh, unseen}
+use Rattle.model.proofs.Kept.{LowSet, shell, Fresh, unseen}
 use Rattle.model.proofs.Plans.{All}
 use Rattle.model.proofs.LowEquivalence.{Twin, SharedSlot, LowEquivalent, LowOutcomes, shell-full, shared-visible}
 use Rattle.model.proofs.TwoRuns.{two-runs}
@@ -64,10 +64,10 @@ unfolding shell
 one-shell x y k l = cc
 
 one-visible : (Low : Label → Bool) (x y : Input) → x .kind ≡ y .kind → x .label ≡ y .label → (Low (x .label) ≡ true → x .number ≡ y .number)
-    → visible Low (Full (recordOf x)) ≡ visible Low (Full (recordOf y))
+    → shown Low (Full (recordOf x)) ≡ shown Low (Full (recordOf y))
 one-visible Low x y k l n = test (Low (x .label)) refl
   where
-    test : (t : Bool) → Low (x .label) ≡ t → visible Low (Full (recordOf x)) ≡ visible Low (Full (recordOf y))
+    test : (t : Bool) → Low (x .label) ≡ t → shown Low (Full (recordOf x)) ≡ shown Low (Full (recordOf y))
     test true e = let m = n e in cc
     test false e = unseen Low (x .kind) (x .label) (Holds (Number (x .number))) e
         ∙ sym (unseen Low (y .kind) (y .label) (Holds (Number (y .number))) (ap Low (sym l) ∙ e))
@@ -77,7 +77,7 @@ abbrev places : List Input → ℕ → Store
 places xs m = inputSlots xs ++ replicate m Empty
 
 alike-places : (Low : Label → Bool) (m : ℕ) (xs ys : List Input) → AlikeInputs Low xs ys → (p : ℕ)
-    → (visible Low (at (places xs m) p) ≡ visible Low (at (places ys m) p)) × (shell (at (places xs m) p) ≡ shell (at (places ys m) p))
+    → (shown Low (at (places xs m) p) ≡ shown Low (at (places ys m) p)) × (shell (at (places xs m) p) ≡ shell (at (places ys m) p))
 unfolding inputSlots
 alike-places Low m [] [] h p = (refl, refl)
 alike-places Low m [] (y ∷ ys) h p = absurd h
@@ -98,9 +98,9 @@ input-full (x ∷ xs) m zero h = shell-full (x .kind) (x .label) (Holds (Number 
 input-full (x ∷ xs) m (suc p) h = input-full xs m p (omega arith)
 
 -- input records hold numbers
-no-handles : (P : Program) (Low : Label → Bool) (σ τ : Store) (xs : List Input) (m p : ℕ) → SharedSlot σ τ (visible Low (at (places xs m) p))
-unfolding inputSlots visible
-no-handles P Low σ τ [] m p = subst (λ (x : Slot). SharedSlot σ τ (visible Low x)) (sym (blank m p Empty)) tt
+no-handles : (P : Program) (Low : Label → Bool) (σ τ : Store) (xs : List Input) (m p : ℕ) → SharedSlot σ τ (shown Low (at (places xs m) p))
+unfolding inputSlots shown
+no-handles P Low σ τ [] m p = subst (λ (x : Slot). SharedSlot σ τ (shown Low x)) (sym (blank m p Empty)) tt
 no-handles P Low σ τ (x ∷ xs) m zero = shared-visible P Low σ τ (x .kind) (x .label) (Holds (Number (x .number))) tt
 no-handles P Low σ τ (x ∷ xs) m (suc p) = no-handles P Low σ τ xs m p
 
@@ -141,7 +141,7 @@ module _ (P : Program) (Low : Label → Bool) (xs ys : List Input) (same : Alike
       counts : length (inputSlots ys) ≡ length (inputSlots xs)
       counts = length-slots ys ∙ sym (alike-length Low xs ys same) ∙ sym (length-slots xs)
 
-      pair : (p : ℕ) → (visible Low (at σ p) ≡ visible Low (at τ p)) × (shell (at σ p) ≡ shell (at τ p))
+      pair : (p : ℕ) → (shown Low (at σ p) ≡ shown Low (at τ p)) × (shell (at σ p) ≡ shell (at τ p))
       pair p = rw counts (alike-places Low (256 - length (inputSlots xs)) xs ys same p)
 
   -- Two runs from n input records that differ only in numbers under labels that are not in the set

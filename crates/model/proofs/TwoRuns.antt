@@ -3,7 +3,8 @@
 use mathlib.Core.Bool.{Bool}
 use Prim.Native.Nat.{ℕ, zero, suc}
 use Rattle.labels.specs.declared.Label.{Label}
-use Rattle.model.specs.State.{Control, Account, Store, Program, Outcome, Runner, withSteps}
+use Rattle.model.specs.State.{Control, Store, Program, Outcome, Runner, withSteps}
+use Rattle.model.specs.declared.Account.{Account}
 use Rattle.model.specs.Effects.{Next}
 use Rattle.model.specs.Running.{step, resume, pay, run, runs}
 use Rattle.model.proofs.Effects.{accountOf, storeOf}

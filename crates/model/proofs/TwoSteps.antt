@@ -8,7 +8,8 @@ use lib.Dec.{leb, ltb}
 use borrow.Author.Tests.{ltb-true, leb-true}
 use lib.ListN.{length, set}
 use Rattle.labels.specs.declared.Label.{Label}
-use Rattle.model.specs.State.{Control, Account, Store, Program, Outcome, Runner, at, number, push, jump, withSteps, withNext}
+use Rattle.model.specs.State.{Control, Store, Program, Outcome, Runner, at, number, push, jump, withSteps, withNext, shown}
+use Rattle.model.specs.declared.Account.{Account}
 use Rattle.model.specs.Operands.{Request, none, ends, throws, raises, lowers, labels, opens, makes, writes, blocks, Plan, faults, asks, plan}
 use Rattle.model.specs.Effects.{Next, go, cut, failTo, fail, checkTarget, raised, holding, yield, openSlot, labelSlot, writeSlot, bodyControl, bodyAccount, outcome, sealOutcome, act}
 use Rattle.model.specs.Running.{perform, step}
@@ -24,7 +25,7 @@ use Rattle.model.specs.declared.Slot.the-variants.{Empty, Full}
 use Rattle.model.specs.declared.Frame.{Frame}
 use Rattle.model.proofs.Tests.{cond-two}
 use Rattle.model.proofs.Effects.{storeOf, yield-of}
-use Rattle.model.proofs.Kept.{LowSet, visible, shell, Fresh, Kept, up, RunnerKept}
+use Rattle.model.proofs.Kept.{LowSet, shell, Fresh, Kept, up, RunnerKept}
 use Rattle.model.proofs.Plans.{all-drop, Reach, reach-wider, points-wider, InRequest, InPlan, plan-in}
 use Rattle.model.proofs.LowEquivalence.{Twin, Shared, SharedContents, SharedSlot, LowEquivalent, LowOutcomes, LowNext, goes, stops, parts, Grows, shared-grows, grows-set, place-twin, grows-kept, equivalent-set, shared-visible}
 use Rattle.model.proofs.BlockOutcome.{outcome-visible}
@@ -102,10 +103,10 @@ module _ (P : Program) (Low : Label → Bool) (D : LowSet P Low) where
         parts (yield-of (λ d _. Low (d .label) ≡ false) c r b σ x e) (yield-of (λ d _. Low (d .label) ≡ false) c r b τ y e)
         (yield-of (λ _ ρ. LowEquivalent P Low ρ (storeOf (yield c r b τ y))) c r b σ x (yield-of (λ _ ρ. LowEquivalent P Low σ ρ) c r b τ y s))
 
-    open-alike : (h j : Kind) (l : Label) (x y : Contents) → SharedSlot σ τ (visible Low (holding h l x))
-        → visible Low (holding h l x) ≡ visible Low (holding j l y)
+    open-alike : (h j : Kind) (l : Label) (x y : Contents) → SharedSlot σ τ (shown Low (holding h l x))
+        → shown Low (holding h l x) ≡ shown Low (holding j l y)
         → LowNext P Low (openSlot P c r a σ (holding h l x)) (openSlot P c r a τ (holding j l y))
-    unfolding openSlot visible
+    unfolding openSlot shown
     open-alike h j l x y o k =
         cond-two (LowNext P Low) (P .flows (P .join (a .label) l) (a .clearance)) (λ _. contents (Low l) refl) (λ _. fails 24 0)
       where
@@ -119,14 +120,14 @@ module _ (P : Program) (Low : Label → Bool) (D : LowSet P Low) where
             (yield-two (raised P l a) x (subst (λ (t : Bool). SharedSlot σ τ (cond t (holding h l x) Empty)) e o))
         contents false e = yield-apart (raised P l a) x y (up P Low D l (P .join (a .label) l) (D .join-right (a .label) l) e)
 
-    open-two : (x y : Slot) → shell x ≡ shell y → visible Low x ≡ visible Low y → SharedSlot σ τ (visible Low x)
+    open-two : (x y : Slot) → shell x ≡ shell y → shown Low x ≡ shown Low y → SharedSlot σ τ (shown Low x)
         → LowNext P Low (openSlot P c r a σ x) (openSlot P c r a τ y)
     unfolding openSlot
     open-two Empty Empty e k o = fails 33 0
     open-two Empty (Full y) e k o = absurd (no-shell y e)
     open-two (Full x) Empty e k o = absurd (no-shell x (sym e))
     open-two (Full x) (Full y) e k o =
-        subst (λ (l : Label). visible Low (Full x) ≡ visible Low (holding (y .kind) l (y .contents))
+        subst (λ (l : Label). shown Low (Full x) ≡ shown Low (holding (y .kind) l (y .contents))
         → LowNext P Low (openSlot P c r a σ (Full x)) (openSlot P c r a τ (holding (y .kind) l (y .contents))))
         (same-label x y e) (open-alike (x .kind) (y .kind) (x .label) (x .contents) (y .contents) o) k
 
@@ -159,14 +160,14 @@ module _ (P : Program) (Low : Label → Bool) (D : LowSet P Low) where
 
     -- the next place is filled with records that the observer can't tell apart
     put-two : (σ′ τ′ : Store) → Grows σ τ σ′ τ′ → LowEquivalent P Low σ′ τ′ → a .next < length σ′ → a .next < length τ′
-        → (h : Kind) (l : Label) (x y : Contents) → visible Low (holding h l x) ≡ visible Low (holding h l y)
-        → SharedSlot σ′ τ′ (visible Low (holding h l x)) → (b : Account)
+        → (h : Kind) (l : Label) (x y : Contents) → shown Low (holding h l x) ≡ shown Low (holding h l y)
+        → SharedSlot σ′ τ′ (shown Low (holding h l x)) → (b : Account)
         → LowNext P Low (go (push (Handle h (a .next)) r) b (set σ′ (a .next) (holding h l x)))
         (go (push (Handle h (a .next)) r) b (set τ′ (a .next) (holding h l y)))
     put-two σ′ τ′ g₁ s′ i j h l x y e o b =
         goes {c = push (Handle h (a .next)) r}
         (record { stack = (place-twin σ′ τ′ (a .next) h l x y i j, all .stack); locals = all .locals })
-        (equivalent-set P Low σ′ τ′ (a .next) h l x y s′ e (shared-grows σ′ τ′ σ″ τ″ g₂ (visible Low (holding h l x)) o))
+        (equivalent-set P Low σ′ τ′ (a .next) h l x y s′ e (shared-grows σ′ τ′ σ″ τ″ g₂ (shown Low (holding h l x)) o))
       where
         σ″ : Store
         σ″ = set σ′ (a .next) (holding h l x)
@@ -217,8 +218,8 @@ module _ (P : Program) (Low : Label → Bool) (D : LowSet P Low) where
         two : LowOutcomes P Low o q
         two = RT (bodyControl t r) (bodyAccount n k a) σ τ bσ bτ (record { stack = tt; locals = gr .locals }) s
 
-        seen : (visible Low (holding Sealed b (outcome P b o)) ≡ visible Low (holding Sealed b (outcome P b q)))
-            × SharedSlot (o .store) (q .store) (visible Low (holding Sealed b (outcome P b o)))
+        seen : (shown Low (holding Sealed b (outcome P b o)) ≡ shown Low (holding Sealed b (outcome P b q)))
+            × SharedSlot (o .store) (q .store) (shown Low (holding Sealed b (outcome P b o)))
         seen = outcome-visible P Low D b (o .store) (q .store) (o .ending) (q .ending) (o .account) (q .account) (two .ends)
 
     act-two : (q : Request) → InRequest (Twin σ τ) q → LowNext P Low (act P R c r a σ q) (act P R c r a τ q)

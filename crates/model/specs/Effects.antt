@@ -5,7 +5,8 @@ use Prim.Native.Nat.{ℕ, _+_, _-_}
 use lib.Dec.{leb, ltb}
 use lib.ListN.{length, set, drop}
 use Rattle.labels.specs.declared.Label.{Label}
-use Rattle.model.specs.State.{Control, Account, Store, Program, Outcome, Runner, at, number, push, withLabel, withClearance, withSteps, withNext}
+use Rattle.model.specs.State.{Control, Store, Program, Outcome, Runner, at, number, push, withLabel, withClearance, withSteps, withNext}
+use Rattle.model.specs.declared.Account.{Account}
 use Rattle.model.specs.Operands.{Request, none, ends, throws, raises, lowers, labels, opens, makes, writes, blocks}
 use Rattle.model.specs.declared.Kind.{Kind}
 use Rattle.model.specs.declared.Kind.the-variants.{Sealed}

@@ -4,7 +4,8 @@ use Prim.Native.Nat.{ℕ, zero, suc, _-_}
 use lib.ListN.{length, replicate}
 use Rattle.labels.specs.Order.{flows, join, meet}
 use Rattle.labels.specs.declared.Label.{Label}
-use Rattle.model.specs.State.{Control, Account, Store, Program, Outcome, Runner, number, jump, withSteps}
+use Rattle.model.specs.State.{Control, Store, Program, Outcome, Runner, number, jump, withSteps}
+use Rattle.model.specs.declared.Account.{Account}
 use Rattle.model.specs.Decoding.{fetch, after}
 use Rattle.model.specs.Operands.{Plan, faults, asks, plan}
 use Rattle.model.specs.Effects.{Next, go, stop, fail, act}

@@ -1,6 +1,6 @@
 -- Running: "a run has an operand stack of 32 values and 16 locals, up to 8 try frames, label, clearance, steps and
 -- places left". The state in three parts, by who may touch it: the script's own, the account, the store.
-use mathlib.Core.Bool.{Bool}
+use mathlib.Core.Bool.{Bool, cond}
 use mathlib.Core.List.{List, [], _∷_}
 use Prim.Native.Nat.{ℕ, _+_}
 use lib.ListN.{getD, set}
@@ -9,10 +9,11 @@ use Rattle.model.specs.declared.Datum.{Datum}
 use Rattle.model.specs.declared.Datum.the-variants.{Number}
 use Rattle.model.specs.declared.Value.{Value}
 use Rattle.model.specs.declared.Slot.{Slot}
-use Rattle.model.specs.declared.Slot.the-variants.{Empty}
+use Rattle.model.specs.declared.Slot.the-variants.{Empty, Full}
 use Rattle.model.specs.declared.Frame.{Frame}
 use Rattle.model.specs.declared.Instr.{Instr}
 use Rattle.model.specs.declared.Ending.{Ending}
+use Rattle.model.specs.declared.Account.{Account}
 
 -- ── the script's own part ──
 
@@ -47,17 +48,6 @@ setLocal i d c = record { pc = c .pc; stack = c .stack; locals = set (c .locals)
 
 -- ── the account ──
 
--- Places are given out in order and not given back in a run, so "places left" is limit less next. A run's allotment (its
--- quota) is the places from next up to limit.
-pub record Account : Type 0 where
-  pub label : Label
-  pub clearance : Label
-  pub steps : ℕ
-  pub next : ℕ
-  pub limit : ℕ
-  -- how many blocks the run is nested in
-  pub depth : ℕ
-
 abbrev pub withLabel : Label → Account → Account
 withLabel l a = record { label = l; clearance = a .clearance; steps = a .steps; next = a .next; limit = a .limit; depth = a .depth }
 
@@ -77,6 +67,11 @@ Store = List Slot
 
 abbrev pub at : Store → ℕ → Slot
 at σ p = getD σ p Empty
+
+-- a place as an observer is shown it: a record whose label is not among those that it sees is not there
+unfoldable pub shown : (Label → Bool) → Slot → Slot
+shown Sees Empty = Empty
+shown Sees (Full r) = cond (Sees (r .label)) (Full r) Empty
 
 -- ── what a run is made under, and how it ends ──
 

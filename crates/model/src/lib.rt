@@ -84,8 +84,30 @@ pub struct Arity {
     pub leaves: usize,
 }
 
+// The account of a run: what it is charged to and checked against. Places are given out in order and not given back in a
+// run, so "places left" is limit less next: a run's allotment (its quota) is the places from next up to limit.
+pub struct Account {
+    pub label: Label,
+    pub clearance: Label,
+    pub steps: usize,
+    pub next: usize,
+    pub limit: usize,
+    // How many blocks the run is nested in.
+    pub depth: usize,
+}
+
 pub enum Ending {
     Result(Datum),
     Fault(u32, u32),
     Spent,
+}
+
+// What a run leaves, beside the store: how it ended, its last label and clearance, the steps that it had left, and the
+// next place.
+pub struct Finished {
+    pub ending: Ending,
+    pub label: Label,
+    pub clearance: Label,
+    pub steps: usize,
+    pub next: usize,
 }

@@ -18,9 +18,10 @@ use Rattle.script_file.specs.Program.{fileInputs, fileProgram, fileAccount, fil
 use Rattle.script_file.specs.Sections.{header}
 use Rattle.script_file.proofs.Tests.{lowest-most}
 use Rattle.script_file.proofs.Answers.{within-limits}
-use Rattle.view.specs.Reading.{Reading, refuse, viewed, fileView, reading}
+use Rattle.view.specs.Reading.{Reading, refuse, fileView, reading}
+use Rattle.view.specs.declared.Answer.the-variants.{Viewed}
 use Rattle.reading.specs.Answers.{reads}
-use Rattle.reading.specs.declared.Answer.{Answer}
+use Rattle.view.specs.declared.Answer.{Answer}
 
 -- ── demand 1: total ──
 
@@ -36,7 +37,7 @@ pub record IsRefused (b : List ℕ) (q : Reading) : Type 0 where
 pub record IsViewed (bs : List ℕ) (i : ℕ) (b : List ℕ) (q : Reading) : Type 0 where
   pub steps : fileRun bs .account .steps ≤ header bs .steps
   pub places : fileRun bs .account .next ≤ header bs .places
-  pub shown : q ≡ record { answer = viewed (length (fileView bs i)); buffer = fileView bs i ++ drop (length (fileView bs i)) b }
+  pub shown : q ≡ record { answer = Viewed (length (fileView bs i)); buffer = fileView bs i ++ drop (length (fileView bs i)) b }
 
 refusal-most : (bs : List ℕ) → refusal bs ≤ 7
 unfolding refusal
@@ -73,7 +74,7 @@ demand-1 bs i b = loads (eqb (refusal bs) 0) refl
 
 -- A file clear of 1 to 9 is run by the rules: the answer and the whole buffer are those of its run's view.
 pub demand-2 : (bs : List ℕ) (i : ℕ) (b : List ℕ) → refusal bs ≡ 0 → i < header bs .labels .count → length (fileView bs i) ≤ length b
-    → reading bs i b ≡ record { answer = viewed (length (fileView bs i)); buffer = fileView bs i ++ drop (length (fileView bs i)) b }
+    → reading bs i b ≡ record { answer = Viewed (length (fileView bs i)); buffer = fileView bs i ++ drop (length (fileView bs i)) b }
 unfolding reading
 demand-2 bs i b z l h = rw (z, lt-ltb i (header bs .labels .count) l, le-leb (length (fileView bs i)) (length b) h)
 

@@ -1,6 +1,6 @@
 // The open calls: reading a file for a label into a buffer. They ask nothing of their caller.
-use reading::Answer;
 use script_file::Loaded;
+use view::Answer;
 ghost use mathlib.Core.Path.{_≡_};
 ghost use Rattle.view.specs.Reading.{reading};
 ghost use Rattle.reading.specs.Answers.{reads, codeOf};

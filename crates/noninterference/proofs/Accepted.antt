@@ -7,7 +7,8 @@ use Prim.Native.Nat.{ℕ, _≤_}
 use native.Mathlib.Omega.{arith}
 use lib.ListN.{length, length-drop, length-append, length-replicate}
 use Rattle.labels.specs.Order.{flows}
-use Rattle.model.specs.State.{Control, Account, Store}
+use Rattle.model.specs.State.{Control, Store}
+use Rattle.model.specs.declared.Account.{Account}
 use Rattle.model.specs.Decoding.{u16}
 use Rattle.model.specs.Inputs.{Input, inputSlots}
 use Rattle.model.specs.Operands.{Request, asks}
@@ -18,7 +19,8 @@ use Rattle.model.proofs.Landing.{Lands}
 use Rattle.model.proofs.Start.{AlikeInputs, length-inputs, length-slots, numbers-point, start-fresh, start-equivalent}
 use Rattle.model.proofs.Reached.{Reached, Holds, nextPlan, all, Safe, reached-safe, safe-holds}
 use Rattle.script_file.specs.Sections.{header, recordBytes, codeBytes, labelAt}
-use Rattle.code_check.specs.Sweep.{among, starts, instrOk, codeOk}
+use Rattle.formulas.specs.Lists.{among}
+use Rattle.code_check.specs.Sweep.{starts, instrOk, codeOk}
 use Rattle.script_file.specs.Checks.{passes7, refusal}
 use Rattle.script_file.specs.Program.{fileInputs, fileProgram, fileAccount, fileRun}
 use Rattle.script_file.proofs.Answers.{accepted as passes, within-limits, in-place}

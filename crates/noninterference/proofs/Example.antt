@@ -11,7 +11,7 @@ use lib.ListN.{length, set, replicate, length-set}
 use lib.Seq.{getD-set-other}
 use Rattle.formulas.specs.Formula.{holds, table, implies}
 use Rattle.labels.specs.Order.{flows, join}
-use Rattle.label_entries.specs.Entry.{wellFormed, readEntry}
+use Rattle.label_entries.specs.Entries.{wellFormed, readEntry}
 use Rattle.model.specs.Decoding.{byte, u16, u32, operandBytes, known, size, instrs, fetch, after}
 use Rattle.model.specs.Operands.{popFrom, asNumber, asLabel, asHandle, asSealed, asReference, arity, dropFrame, operate, plan}
 use Rattle.model.specs.Effects.{failTo, yield, openSlot, labelSlot, writeSlot, contentsOf, outcome, act}
@@ -22,7 +22,8 @@ use Rattle.code_check.specs.Sweep.{sweep, starts, operandsOk, instrOk, mayBeLas
 use Rattle.script_file.specs.Checks.{every, sizeOk, countsOk, offsetsOk, recordsOk, passes1, passes2, passes3, passes4, passes5, passes6, passes7, refusal}
 use Rattle.script_file.specs.Program.{fileInputs, fileProgram, fileAccount, fileRun}
 use Rattle.view_fields.specs.Fields.{littleEndian, labelField, datumField, contentsField, endingNumber, resultField, kindByte, recordField}
-use Rattle.view.specs.Layout.{shown, slotField, recordFields, recordsShown, counts, final, viewLength, view}
+use Rattle.model.specs.State.{shown}
+use Rattle.view.specs.Layout.{slotField, recordFields, recordsShown, counts, final, viewLength, view}
 use Rattle.view.specs.Reading.{fileView, reading}
 use Rattle.noninterference.specs.Alike.{legible, inputLabel, Hidden, Alike, SameReads}
 use Rattle.noninterference.proofs.Demand3.{demand-3}

@@ -12,7 +12,8 @@ use Rattle.model.specs.Decoding.{byte, known, size, instrs, fetch, after}
 use Rattle.model.specs.declared.Instr.{Instr}
 use Rattle.model.specs.declared.Instr.the-variants.{End, Push, Lab, Get, Set, Pop, Add, Sub, Less, Same, Jump, Ifz, Cur, Clr, Raise, Lower, Flows, Join, Meet, Seal, Open, Labof, New, Read, Write, Block, Try, Done, Throw, Input}
 use Rattle.model.proofs.Landing.{Lands}
-use Rattle.code_check.specs.Sweep.{sweep, starts, among, all, operandsOk, instrOk, mayBeLast, lastOf, codeOk}
+use Rattle.formulas.specs.Lists.{among}
+use Rattle.code_check.specs.Sweep.{sweep, starts, all, operandsOk, instrOk, mayBeLast, lastOf, codeOk}
 use Rattle.code_check.proofs.Starts.{size-some, sweep-past, sweep-here, after-step}
 
 -- ── tests ──

@@ -13,7 +13,8 @@ use Rattle.labels.specs.declared.Label.{Label}
 use Rattle.model.specs.Decoding.{byte}
 use Rattle.script_file.specs.Sections.{header, labelAt}
 use Rattle.script_file.specs.Checks.{every, passes1, passes2, passes3, passes4, passes6}
-use Rattle.view.specs.Reading.{refused, viewed, Reading}
+use Rattle.view.specs.Reading.{Reading}
+use Rattle.view.specs.declared.Answer.the-variants.{Refused, Viewed}
 
 -- none of 1 to 4, 6 and 8 applies. Any of them may apply where another number is returned, so each is a test of its own.
 unfoldable pub legible : List ℕ → ℕ → Bool
@@ -44,7 +45,7 @@ pub record Alike (bs cs : List ℕ) (i : ℕ) : Type 0 where
 -- Two reads, into buffers that held b and d, that their reader can't tell apart: the same refusal and both buffers as they
 -- were, or one view v in both and each buffer's rest as it was.
 pub data SameReads (b d : List ℕ) : Reading → Reading → Type 0 where
-  both-refused : (n : ℕ) → SameReads b d (record { answer = refused n; buffer = b }) (record { answer = refused n; buffer = d })
+  both-refused : (n : ℕ) → SameReads b d (record { answer = Refused n; buffer = b }) (record { answer = Refused n; buffer = d })
   both-viewed : (v : List ℕ) → length v ≤ length b → length v ≤ length d
-      → SameReads b d (record { answer = viewed (length v); buffer = v ++ drop (length v) b })
-      (record { answer = viewed (length v); buffer = v ++ drop (length v) d })
+      → SameReads b d (record { answer = Viewed (length v); buffer = v ++ drop (length v) b })
+      (record { answer = Viewed (length v); buffer = v ++ drop (length v) d })

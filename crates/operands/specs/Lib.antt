@@ -1,3 +1,3 @@
--- Program: a file's parts as the machine's program. Plans: what the code makes of an instruction's operands.
+-- Program: a file's parts as the machine's program. Tasks: what the code makes of an instruction's operands.
 pub mod Program
-pub mod Plans
+pub mod Tasks

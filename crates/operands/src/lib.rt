@@ -9,7 +9,7 @@ ghost use Prim.Native.Nat.{_^_, _<_};
 ghost use lib.ListN.{length, getD};
 ghost use Rattle.model.specs.Inputs.{kindOf};
 ghost use Rattle.model.specs.Words.{labelIn};
-ghost use Rattle.operands.specs.Plans.{decided, faulty, bitOf, arithOf, numbersOf, testOf, numberOf, onNumbers, labelOf, pairOf, labelsOf, shortOf, pushOf, tryOf, doneOf, inputOf, planOf};
+ghost use Rattle.operands.specs.Tasks.{decided, faulty, bitOf, arithOf, numbersOf, testOf, numberOf, onNumbers, labelOf, pairOf, labelsOf, shortOf, pushOf, tryOf, doneOf, inputOf, taskOf};
 
 // Where a label lies that is to be pushed.
 pub enum Origin {
@@ -120,7 +120,7 @@ pub enum LabelTask {
 }
 
 // What is to be looked at, once there are operands and room enough.
-pub enum Plan {
+pub enum Task {
     // nothing
     Do(Decision),
     Numbers(NumberTask),
@@ -308,93 +308,93 @@ fn input(records: &[u8], i: usize) -> Effect
 // ---- the instructions
 
 // Fault 20.
-fn short(height: usize, takes: usize, p: Plan) -> Plan
+fn short(height: usize, takes: usize, p: Task) -> Task
     ensures { λ r. ⌜ r ≡ shortOf height takes p ⌝ }
 {
     if height < takes {
-        return Plan::Do(faulty(20));
+        return Task::Do(faulty(20));
     }
     p
 }
 
-fn label_plan(height: usize, takes: usize, f: OnLabel) -> Plan
-    ensures { λ r. ⌜ r ≡ shortOf height takes (Plan.Labels (LabelTask.Label f)) ⌝ }
+fn label_task(height: usize, takes: usize, f: OnLabel) -> Task
+    ensures { λ r. ⌜ r ≡ shortOf height takes (Task.Labels (LabelTask.Label f)) ⌝ }
 {
-    short(height, takes, Plan::Labels(LabelTask::Label(f)))
+    short(height, takes, Task::Labels(LabelTask::Label(f)))
 }
 
-fn handle_plan(height: usize, takes: usize, f: OnHandle) -> Plan
-    ensures { λ r. ⌜ r ≡ shortOf height takes (Plan.Labels (LabelTask.Handle f)) ⌝ }
+fn handle_task(height: usize, takes: usize, f: OnHandle) -> Task
+    ensures { λ r. ⌜ r ≡ shortOf height takes (Task.Labels (LabelTask.Handle f)) ⌝ }
 {
-    short(height, takes, Plan::Labels(LabelTask::Handle(f)))
+    short(height, takes, Task::Labels(LabelTask::Handle(f)))
 }
 
 // Fault 21.
-fn push(height: usize, e: Effect) -> Plan
+fn push(height: usize, e: Effect) -> Task
     ensures { λ r. ⌜ r ≡ pushOf height e ⌝ }
 {
     if 31 < height {
-        return Plan::Do(faulty(21));
+        return Task::Do(faulty(21));
     }
-    Plan::Do(decides(0, e))
+    Task::Do(decides(0, e))
 }
 
 // TRY: its handler gets a code and a number.
-fn try_frame(height: usize, frames: usize, h: usize) -> Plan
+fn try_frame(height: usize, frames: usize, h: usize) -> Task
     ensures { λ r. ⌜ r ≡ tryOf height frames h ⌝ }
 {
     if 30 < height {
-        return Plan::Do(faulty(21));
+        return Task::Do(faulty(21));
     }
     if frames < 8 {
-        return Plan::Do(decides(0, Effect::Try(h)));
+        return Task::Do(decides(0, Effect::Try(h)));
     }
-    Plan::Do(faulty(29))
+    Task::Do(faulty(29))
 }
 
-fn done(frames: usize) -> Plan
+fn done(frames: usize) -> Task
     ensures { λ r. ⌜ r ≡ doneOf frames ⌝ }
 {
     if frames == 0 {
-        return Plan::Do(faulty(29));
+        return Task::Do(faulty(29));
     }
-    Plan::Do(decides(0, Effect::Done))
+    Task::Do(decides(0, Effect::Done))
 }
 
 // What an instruction has to look at, with so many values and frames.
-pub fn plan_of(i: Instr, height: usize, frames: usize, records: &[u8]) -> Plan
-    ensures { λ r. ⌜ r ≡ planOf i height frames (now (records .entry)) ⌝ }
+pub fn task_of(i: Instr, height: usize, frames: usize, records: &[u8]) -> Task
+    ensures { λ r. ⌜ r ≡ taskOf i height frames (now (records .entry)) ⌝ }
 {
     match i {
-        Instr::End => short(height, 1, Plan::Do(decides(1, Effect::End))),
+        Instr::End => short(height, 1, Task::Do(decides(1, Effect::End))),
         Instr::Push(n) => push(height, Effect::Number(n)),
         Instr::Lab(j) => push(height, Effect::Label(Origin::File(j))),
         Instr::Get(j) => push(height, Effect::Get(j)),
-        Instr::Set(j) => short(height, 1, Plan::Do(decides(1, Effect::Set(j)))),
-        Instr::Pop => short(height, 1, Plan::Do(decides(1, Effect::Drop))),
-        Instr::Add => short(height, 2, Plan::Numbers(NumberTask::Arith(Arith::Add))),
-        Instr::Sub => short(height, 2, Plan::Numbers(NumberTask::Arith(Arith::Sub))),
-        Instr::Less => short(height, 2, Plan::Numbers(NumberTask::Arith(Arith::Less))),
-        Instr::Same => short(height, 2, Plan::Numbers(NumberTask::Arith(Arith::Same))),
-        Instr::Jump(t) => Plan::Do(decides(0, Effect::Jump(t))),
-        Instr::Ifz(t) => short(height, 1, Plan::Numbers(NumberTask::Test(Test::Branch(t)))),
+        Instr::Set(j) => short(height, 1, Task::Do(decides(1, Effect::Set(j)))),
+        Instr::Pop => short(height, 1, Task::Do(decides(1, Effect::Drop))),
+        Instr::Add => short(height, 2, Task::Numbers(NumberTask::Arith(Arith::Add))),
+        Instr::Sub => short(height, 2, Task::Numbers(NumberTask::Arith(Arith::Sub))),
+        Instr::Less => short(height, 2, Task::Numbers(NumberTask::Arith(Arith::Less))),
+        Instr::Same => short(height, 2, Task::Numbers(NumberTask::Arith(Arith::Same))),
+        Instr::Jump(t) => Task::Do(decides(0, Effect::Jump(t))),
+        Instr::Ifz(t) => short(height, 1, Task::Numbers(NumberTask::Test(Test::Branch(t)))),
         Instr::Cur => push(height, Effect::Label(Origin::Current)),
         Instr::Clr => push(height, Effect::Label(Origin::Clearance)),
-        Instr::Raise => label_plan(height, 1, OnLabel::Raise),
-        Instr::Lower => label_plan(height, 1, OnLabel::Lower),
-        Instr::Flows => short(height, 2, Plan::Labels(LabelTask::Pair(Pair::Flows))),
-        Instr::Join => short(height, 2, Plan::Labels(LabelTask::Pair(Pair::Join))),
-        Instr::Meet => short(height, 2, Plan::Labels(LabelTask::Pair(Pair::Meet))),
-        Instr::Seal => label_plan(height, 2, OnLabel::Make(Kind::Sealed)),
-        Instr::Open => handle_plan(height, 1, OnHandle::Open(Kind::Sealed)),
-        Instr::Labof => handle_plan(height, 1, OnHandle::Label),
-        Instr::New => label_plan(height, 2, OnLabel::Make(Kind::Reference)),
-        Instr::Read => handle_plan(height, 1, OnHandle::Open(Kind::Reference)),
-        Instr::Write => handle_plan(height, 2, OnHandle::Write),
-        Instr::Block(t, n, k) => label_plan(height, 1, OnLabel::Block(t, n, k)),
+        Instr::Raise => label_task(height, 1, OnLabel::Raise),
+        Instr::Lower => label_task(height, 1, OnLabel::Lower),
+        Instr::Flows => short(height, 2, Task::Labels(LabelTask::Pair(Pair::Flows))),
+        Instr::Join => short(height, 2, Task::Labels(LabelTask::Pair(Pair::Join))),
+        Instr::Meet => short(height, 2, Task::Labels(LabelTask::Pair(Pair::Meet))),
+        Instr::Seal => label_task(height, 2, OnLabel::Make(Kind::Sealed)),
+        Instr::Open => handle_task(height, 1, OnHandle::Open(Kind::Sealed)),
+        Instr::Labof => handle_task(height, 1, OnHandle::Label),
+        Instr::New => label_task(height, 2, OnLabel::Make(Kind::Reference)),
+        Instr::Read => handle_task(height, 1, OnHandle::Open(Kind::Reference)),
+        Instr::Write => handle_task(height, 2, OnHandle::Write),
+        Instr::Block(t, n, k) => label_task(height, 1, OnLabel::Block(t, n, k)),
         Instr::Try(h) => try_frame(height, frames, h),
         Instr::Done => done(frames),
-        Instr::Throw => short(height, 1, Plan::Numbers(NumberTask::Test(Test::Throw))),
+        Instr::Throw => short(height, 1, Task::Numbers(NumberTask::Test(Test::Throw))),
         Instr::Input(j) => push(height, input(records, j)),
     }
 }

@@ -1,6 +1,6 @@
 // Printing the views of a file: a line for each of its labels, that label reading.
 use libc::STDOUT_FILENO;
-use reading::Answer;
+use view::Answer;
 
 // A view has at most 62 + 36 * 256 bytes, and its line at most two digits for each and a space or line feed for each
 // field: 13, and 7 for each record.

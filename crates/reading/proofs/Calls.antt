@@ -8,11 +8,11 @@ use borrow.Author.Tests.{lt-ltb, le-ltb, lt-leb, le-leb}
 use lib.Dec.{eqb}
 use lib.ListN.{length, replicate}
 use Rattle.labels.specs.declared.Label.{Label}
-use Rattle.model.specs.State.{Store, Outcome}
+use Rattle.model.specs.State.{Store}
 use Rattle.model.specs.Inputs.{inputs, inputSlots}
 use Rattle.model.specs.Running.{runs, startControl, startAccount, startStore}
-use Rattle.machine.specs.Steps.{Finishes as Left}
-use Rattle.machine.specs.declared.Finished.{Finished}
+use Rattle.machine.specs.Steps.{Finishes}
+use Rattle.model.specs.declared.Finished.{Finished}
 use Rattle.model.specs.Words.{labelIn}
 use Rattle.operands.specs.Program.{count, program}
 use Rattle.store.specs.Slots.{parts, slots}
@@ -30,13 +30,13 @@ use Rattle.script_file.proofs.Labels.{length-padded}
 use Rattle.script_file.proofs.Answers.{refused-number, file-number, file-header, loads, within-limits, in-place}
 use Rattle.script_file.proofs.Findings.{recordsIn, codeIn, records-in, code-in}
 use Rattle.view.specs.Layout.{view}
-use Rattle.view.specs.Reading.{Reading, refuse, show, reading, fileView, viewed}
+use Rattle.view.specs.Reading.{Reading, refuse, show, reading, fileView}
 use Rattle.view_fields.specs.Writing.{over}
-use Rattle.view.specs.Writing.{reads as readerOf, finished}
-use Rattle.view.specs.declared.Finish.{Finish}
+use Rattle.view.specs.Writing.{observes, finished}
 use Rattle.view.proofs.Widths.{view-finished}
-use Rattle.reading.specs.Answers.{answerOf, reads, codeOf, Loads, Leaves, Finishes}
-use Rattle.reading.specs.declared.Answer.{Answer}
+use Rattle.reading.specs.Answers.{reads, codeOf, Loads}
+use Rattle.view.specs.declared.Answer.{Answer}
+use Rattle.view.specs.declared.Answer.the-variants.{Viewed}
 use Rattle.reading.specs.Placing.{noRecords}
 use Rattle.reading.proofs.Parts.{labels-are, records-length, records-counted, code-length, program-is}
 
@@ -45,7 +45,7 @@ use Rattle.reading.proofs.Parts.{labels-are, records-length, records-co
 pub show-short : (v b : List ℕ) → length b < length v → refuse 9 b ≡ show v b
 show-short v b h = rw (lt-leb (length v) (length b) h)
 
-pub show-whole : (v b out : List ℕ) (n : ℕ) → length v ≤ length b → n ≡ length v → out ≡ over v b → record { answer = viewed n; buffer = out } ≡ show v b
+pub show-whole : (v b out : List ℕ) (n : ℕ) → length v ≤ length b → n ≡ length v → out ≡ over v b → record { answer = Viewed n; buffer = out } ≡ show v b
 unfolding over
 show-whole v b out n h e f = rw (e, f, le-leb (length v) (length b) h)
 
@@ -89,18 +89,6 @@ module _ (bs : List ℕ) (h : Header) (ws : List ℕ) (w : Loads bs h ws) where
   run-is l c σ el ec es =
       rw (el, ec, es, records-are, code-is, w .numbers, w .labels, program-is bs (w .none), labels-are bs (w .none), records-counted bs (w .none))
 
-pub finishes : (f : Finish) (s : Finished) (σ : Store) (p o : Outcome) → Leaves f s → Left s σ p → p ≡ o → Finishes f σ o
-finishes f s σ p o w e q =
-    rw (← q)
-    (record {
-      ending = e .ending ∙ sym (w .ending);
-      label = e .label ∙ sym (w .label);
-      clearance = e .clearance ∙ sym (w .clearance);
-      steps = e .steps ∙ sym (w .steps);
-      next = e .next ∙ sym (w .next);
-      store = e .store;
-    })
-
 pub no-records : slots (replicate 1536 0) ≡ noRecords
 unfolding slots parts
 no-records = refl
@@ -138,16 +126,16 @@ module _ (bs : List ℕ) (h : Header) (ws : List ℕ) (w : Loads bs h ws) (i : �
   unfolding reading
   read-unlisted g = rw (w .none, le-ltb i (header bs .labels .count) (rw (← w .numbers) g))
 
-  pub read-shown : (l : Label) (f : Finish) (σ : Store) → i < h .labels .count → l ≡ labelIn ws i → Finishes f σ (fileRun bs)
-      → show (view (readerOf l) (h .steps) (finished f σ)) b ≡ reading bs i b
+  pub read-shown : (l : Label) (f : Finished) (σ : Store) → i < h .labels .count → l ≡ labelIn ws i → Finishes f σ (fileRun bs)
+      → show (view (observes l) (h .steps) (finished f σ)) b ≡ reading bs i b
   unfolding reading fileView
   read-shown l f σ g e k =
       rw (w .none, lt-ltb i (header bs .labels .count) (rw (← w .numbers) g), e, w .labels, labels-are bs (w .none), w .numbers, ← k .store)
       (ap (λ (v : List ℕ). show v b)
-      (sym (view-finished (readerOf (labelAt bs i)) (header bs .steps) (fileRun bs) f (k .ending) (k .label) (k .clearance) (k .steps) (k .next))))
+      (sym (view-finished (observes (labelAt bs i)) (header bs .steps) (fileRun bs) f (k .ending) (k .label) (k .clearance) (k .steps) (k .next))))
 
 -- ── one number for the answer ──
 
 pub call-answered : (bs : List ℕ) (i : ℕ) (b out : List ℕ) (r : Answer) → reads r out ≡ reading bs i b
-    → (codeOf (answerOf r) ≡ codeOf (reading bs i b .answer)) × (out ≡ reading bs i b .buffer)
+    → (codeOf r ≡ codeOf (reading bs i b .answer)) × (out ≡ reading bs i b .buffer)
 call-answered bs i b out r e = (ap (λ (q : Reading). codeOf (q .answer)) e, ap (λ (q : Reading). q .buffer) e)

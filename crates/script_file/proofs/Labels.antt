@@ -8,7 +8,7 @@ use native.Mathlib.Omega.{arith}
 use lib.Dec.{ltb}
 use borrow.Author.Tests.{ltb-true, ltb-false}
 use lib.ListN.{length, getD, set, drop, length-append, List·getD-eq-default}
-use Rattle.label_entries.specs.Entry.{readEntry}
+use Rattle.label_entries.specs.Entries.{readEntry}
 use Rattle.labels.specs.declared.Label.{Label}
 use Rattle.label_entries.specs.declared.Entry.{Entry}
 use Rattle.label_entries.specs.declared.Entry.the-variants.{Read, Malformed}

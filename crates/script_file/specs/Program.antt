@@ -1,7 +1,8 @@
 -- What a file that loads is run with, and its run.
 use mathlib.Core.List.{List}
 use Prim.Native.Nat.{ℕ}
-use Rattle.model.specs.State.{Account, Program, Outcome}
+use Rattle.model.specs.State.{Program, Outcome}
+use Rattle.model.specs.declared.Account.{Account}
 use Rattle.model.specs.Inputs.{Input, inputs, inputSlots}
 use Rattle.model.specs.Running.{runs, programOf, startControl, startAccount, startStore}
 use Rattle.script_file.specs.Sections.{header, recordBytes, codeBytes, labelAt}

@@ -15,7 +15,7 @@ use Rattle.model.specs.declared.Contents.{Contents}
 use Rattle.model.specs.declared.Slot.{Slot}
 use Rattle.model.specs.declared.Slot.the-variants.{Empty, Full}
 use Rattle.store.specs.Records.{rewritten}
-use Rattle.store.specs.Slots.{places, width, words, kindWord, contentsOf, slotOf, slotWords, parts, slots}
+use Rattle.store.specs.Slots.{places, width, words, kindWord, contentsIn, slotOf, slotWords, parts, slots}
 use Rattle.store.proofs.Chunks.{length-parts, part-at, parts-sets, map-set}
 
 pub length-slots : (l : List ℕ) → length (slots l) ≡ places
@@ -57,7 +57,7 @@ pub slot-keep : (l : List ℕ) (p : ℕ) (x : Slot) → places ≤ p → slots l
 slot-keep l p x h = sym (set-out (slots l) p x (let e = length-slots l in omega arith))
 
 -- a record's words are read back
-pub slot-back : (k : Kind) (l : Label) (c : Contents) (t x y : ℕ) → contentsOf t x y ≡ c
+pub slot-back : (k : Kind) (l : Label) (c : Contents) (t x y : ℕ) → contentsIn t x y ≡ c
     → slotOf (kindWord k) (l .secrecy) (l .integrity) t x y ≡ Full (record { kind = k; label = l; contents = c })
 slot-back Sealed l c t x y e = ap (λ (d : Contents). Full (record { kind = Sealed; label = l; contents = d })) e
 slot-back Reference l c t x y e = ap (λ (d : Contents). Full (record { kind = Reference; label = l; contents = d })) e

@@ -31,8 +31,8 @@ abbrev pub kindWord : Kind → ℕ
 kindWord Sealed = 1
 kindWord Reference = 2
 
-abbrev pub contentsOf : ℕ → ℕ → ℕ → Contents
-contentsOf t x y =
+abbrev pub contentsIn : ℕ → ℕ → ℕ → Contents
+contentsIn t x y =
     cond (eqb t 1) (Value (Number (low x)))
     (cond (eqb t 2) (Value (Labelled (record { secrecy = x; integrity = y })))
     (cond (eqb t 3) (Value (Handle Sealed x))
@@ -42,7 +42,7 @@ contentsOf t x y =
 abbrev pub slotOf : ℕ → ℕ → ℕ → ℕ → ℕ → ℕ → Slot
 slotOf k s i t x y =
     cond (eqb k 0) Empty
-    (Full (record { kind = cond (eqb k 1) Sealed Reference; label = record { secrecy = s; integrity = i }; contents = contentsOf t x y }))
+    (Full (record { kind = cond (eqb k 1) Sealed Reference; label = record { secrecy = s; integrity = i }; contents = contentsIn t x y }))
 
 abbrev pub slotWords : List ℕ → Slot
 slotWords ws = slotOf (getD ws 0 0) (getD ws 1 0) (getD ws 2 0) (getD ws 3 0) (getD ws 4 0) (getD ws 5 0)

@@ -8,11 +8,11 @@ use model::Slot;
 ghost use mathlib.Core.Path.{_≡_};
 ghost use lib.ListN.{length, set};
 ghost use Rattle.model.specs.State.{at};
-ghost use Rattle.store.specs.Slots.{words, kindWord, contentsOf, slotOf, slots};
+ghost use Rattle.store.specs.Slots.{words, kindWord, contentsIn, slotOf, slots};
 ghost use Rattle.store.specs.Records.{labelAt, valueAt, rewritten};
 
 // How many places there are, and how many words each has: kind, label (two), and contents (three).
-const PLACES: usize = 256;
+pub const PLACES: usize = 256;
 
 const WIDTH: usize = 6;
 
@@ -124,7 +124,7 @@ fn slot_of(kind: u64, secrecy: u64, integrity: u64, tag: u64, first: u64, second
 }
 
 fn contents_of(tag: u64, first: u64, second: u64) -> Contents
-    ensures { λ r. ⌜ r ≡ contentsOf tag first second ⌝ }
+    ensures { λ r. ⌜ r ≡ contentsIn tag first second ⌝ }
 {
     match tag {
         1 => Contents::Value(Datum::Number(low(first))),
@@ -176,7 +176,7 @@ fn kind_word(kind: Kind) -> u64
 }
 
 fn contents_words(contents: Contents) -> Words
-    ensures { λ w. ⌜ contentsOf (w .tag) (w .first) (w .second) ≡ contents ⌝ }
+    ensures { λ w. ⌜ contentsIn (w .tag) (w .first) (w .second) ≡ contents ⌝ }
 {
     match contents {
         Contents::Value(d) => datum_words(d),
@@ -189,7 +189,7 @@ fn contents_words(contents: Contents) -> Words
 }
 
 fn datum_words(d: Datum) -> Words
-    ensures { λ w. ⌜ contentsOf (w .tag) (w .first) (w .second) ≡ Contents.Value d ⌝ }
+    ensures { λ w. ⌜ contentsIn (w .tag) (w .first) (w .second) ≡ Contents.Value d ⌝ }
 {
     match d {
         Datum::Number(n) => Words {
@@ -207,7 +207,7 @@ fn datum_words(d: Datum) -> Words
 }
 
 fn handle_words(kind: Kind, p: usize) -> Words
-    ensures { λ w. ⌜ contentsOf (w .tag) (w .first) (w .second) ≡ Contents.Value (Datum.Handle kind p) ⌝ }
+    ensures { λ w. ⌜ contentsIn (w .tag) (w .first) (w .second) ≡ Contents.Value (Datum.Handle kind p) ⌝ }
 {
     match kind {
         Kind::Sealed => Words {

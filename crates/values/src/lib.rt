@@ -6,7 +6,7 @@ use model::Value;
 ghost use mathlib.Core.Path.{_≡_};
 ghost use Prim.Native.Nat.{min};
 ghost use Rattle.model.specs.State.{number};
-ghost use Rattle.operands.specs.Plans.{labelOf};
+ghost use Rattle.operands.specs.Tasks.{labelOf};
 ghost use Rattle.values.specs.Present.{presentOf};
 
 pub fn number(n: u32) -> Value

@@ -10,23 +10,23 @@ use Rattle.view_fields.specs.Fields.{labelField, endingNumber, resultField}
 use Rattle.view_fields.specs.Writing.{over, numbers, tripleField}
 use Rattle.view_fields.specs.declared.Triple.{Triple}
 use Rattle.view.specs.Layout.{counts, final}
-use Rattle.view.specs.Writing.{reads, closing}
-use Rattle.view.specs.declared.Finish.{Finish}
+use Rattle.view.specs.Writing.{observes, closing}
+use Rattle.model.specs.declared.Finished.{Finished}
 use Rattle.view.proofs.Widths.{counts-shown, counts-hidden, final-shown, final-hidden}
 
-module _ (reader : Label) (f : Finish) (out : List ℕ) {b : Bool} (e : b ≡ flows (f .label) reader) where
+module _ (reader : Label) (f : Finished) (out : List ℕ) {b : Bool} (e : b ≡ flows (f .label) reader) where
   pub counts-written : (s : ℕ) → b ≡ true → {x y : ℕ} → x ≡ endingNumber (f .ending) → y ≡ s - f .steps
-      → over (numbers x y (f .next)) out ≡ over (counts (reads reader) s (f .ending) (closing f)) out
+      → over (numbers x y (f .next)) out ≡ over (counts (observes reader) s (f .ending) (closing f)) out
   counts-written s t p q =
-      ap (λ (v : List ℕ). over v out) (ap₂ (λ (x y : ℕ). numbers x y (f .next)) p q ∙ sym (counts-shown (reads reader) (f .ending) (closing f) s (sym e ∙ t)))
+      ap (λ (v : List ℕ). over v out) (ap₂ (λ (x y : ℕ). numbers x y (f .next)) p q ∙ sym (counts-shown (observes reader) (f .ending) (closing f) s (sym e ∙ t)))
 
-  pub counts-blank : (s : ℕ) → b ≡ false → over (replicate 6 0) out ≡ over (counts (reads reader) s (f .ending) (closing f)) out
-  counts-blank s t = ap (λ (v : List ℕ). over v out) (sym (counts-hidden (reads reader) (f .ending) (closing f) s (sym e ∙ t)))
+  pub counts-blank : (s : ℕ) → b ≡ false → over (replicate 6 0) out ≡ over (counts (observes reader) s (f .ending) (closing f)) out
+  counts-blank s t = ap (λ (v : List ℕ). over v out) (sym (counts-hidden (observes reader) (f .ending) (closing f) s (sym e ∙ t)))
 
   pub final-written : b ≡ true → (r : Triple) → tripleField r ≡ resultField (f .ending)
-      → over (tripleField r ++ (labelField (f .label) ++ labelField (f .clearance))) out ≡ over (final (reads reader) (f .ending) (closing f)) out
+      → over (tripleField r ++ (labelField (f .label) ++ labelField (f .clearance))) out ≡ over (final (observes reader) (f .ending) (closing f)) out
   final-written t r p =
-      ap (λ (v : List ℕ). over v out) (ap (λ (v : List ℕ). v ++ (labelField (f .label) ++ labelField (f .clearance))) p ∙ sym (final-shown (reads reader) (f .ending) (closing f) (sym e ∙ t)))
+      ap (λ (v : List ℕ). over v out) (ap (λ (v : List ℕ). v ++ (labelField (f .label) ++ labelField (f .clearance))) p ∙ sym (final-shown (observes reader) (f .ending) (closing f) (sym e ∙ t)))
 
-  pub final-blank : b ≡ false → over (replicate 50 0) out ≡ over (final (reads reader) (f .ending) (closing f)) out
-  final-blank t = ap (λ (v : List ℕ). over v out) (sym (final-hidden (reads reader) (f .ending) (closing f) (sym e ∙ t)))
+  pub final-blank : b ≡ false → over (replicate 50 0) out ≡ over (final (observes reader) (f .ending) (closing f)) out
+  final-blank t = ap (λ (v : List ℕ). over v out) (sym (final-hidden (observes reader) (f .ending) (closing f) (sym e ∙ t)))

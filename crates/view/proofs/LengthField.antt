@@ -7,11 +7,12 @@ use native.Mathlib.Omega.{arith}
 use lib.ListN.{length}
 use lib.Seq.{getD-append-add}
 use Rattle.labels.specs.declared.Label.{Label}
-use Rattle.model.specs.State.{Account, Store, Outcome}
+use Rattle.model.specs.State.{Store, Outcome, shown}
+use Rattle.model.specs.declared.Account.{Account}
 use Rattle.model.specs.Decoding.{byte, u16}
 use Rattle.model.specs.declared.Ending.{Ending}
 use Rattle.view_fields.specs.Fields.{littleEndian}
-use Rattle.view.specs.Layout.{shown, recordFields, recordsShown, recordsAt, counts, final, viewLength, view}
+use Rattle.view.specs.Layout.{recordFields, recordsShown, recordsAt, counts, final, viewLength, view}
 use Rattle.view.proofs.Widths.{one-small, length-counts, length-view}
 
 -- behind the first three numbers

@@ -9,14 +9,14 @@ use native.Mathlib.Omega.{arith}
 use lib.ListN.{length, drop, drop-of-length-le}
 use lib.Seq.{drop-cons}
 use Rattle.labels.specs.declared.Label.{Label}
-use Rattle.model.specs.State.{at}
+use Rattle.model.specs.State.{at, shown}
 use Rattle.model.specs.declared.Record.{Record}
 use Rattle.model.specs.declared.Slot.{Slot}
 use Rattle.model.specs.declared.Slot.the-variants.{Empty, Full}
 use Rattle.store.specs.Slots.{places, slots}
 use Rattle.store.proofs.Places.{length-slots}
 use Rattle.view_fields.specs.Fields.{recordWidth, recordField}
-use Rattle.view.specs.Layout.{shown, slotField, recordFields, one, recordsShown}
+use Rattle.view.specs.Layout.{slotField, recordFields, one, recordsShown}
 use Rattle.view_fields.specs.Writing.{over}
 use Rattle.view_fields.proofs.Buffers.{Writing, start, piece, ends, part, back}
 use Rattle.view_fields.proofs.Widths.{length-record}

@@ -6,13 +6,13 @@ use Prim.Native.Nat.{ℕ, suc, _+_}
 use native.Mathlib.Omega.{arith}
 use lib.ListN.{length}
 use Rattle.labels.specs.declared.Label.{Label}
-use Rattle.model.specs.State.{Account, Store, Program, Outcome, at}
+use Rattle.model.specs.State.{Store, Program, Outcome, at, shown}
+use Rattle.model.specs.declared.Account.{Account}
 use Rattle.model.specs.declared.Slot.{Slot}
 use Rattle.model.specs.declared.Slot.the-variants.{Empty, Full}
 use Rattle.model.specs.declared.Ending.{Ending}
-use Rattle.model.proofs.Kept.{visible}
 use Rattle.model.proofs.LowEquivalence.{Ends, together, apart, LowOutcomes}
-use Rattle.view.specs.Layout.{shown, slotField, recordFields, one, recordsShown, counts, final, viewLength, view}
+use Rattle.view.specs.Layout.{slotField, recordFields, one, recordsShown, counts, final, viewLength, view}
 
 -- the records of two stores of one length in which each place is shown alike
 module _ (Reads : Label → Bool) where
@@ -34,13 +34,13 @@ module _ (Reads : Label → Bool) where
   shown-alike (x ∷ σ) (y ∷ τ) e h = ap₂ (λ (z : Slot) (n : ℕ). one z + n) (h 0) (shown-alike σ τ (omega arith) (λ q. h (suc q)))
 
 module _ (Reads Low : Label → Bool) (within : (l : Label) → Reads l ≡ true → Low l ≡ true) where
-  -- what is shown to a reader of some labels in the set is a part of what is visible to an observer of the set
-  shown-visible : (x : Slot) → shown Reads x ≡ shown Reads (visible Low x)
-  unfolding shown visible
-  shown-visible Empty = refl
-  shown-visible (Full x) = tests (Reads (x .label)) (Low (x .label)) refl refl
+  -- what is shown to a reader of some labels in the set is a part of what an observer of the set is shown
+  shown-twice : (x : Slot) → shown Reads x ≡ shown Reads (shown Low x)
+  unfolding shown
+  shown-twice Empty = refl
+  shown-twice (Full x) = tests (Reads (x .label)) (Low (x .label)) refl refl
     where
-      tests : (r s : Bool) → Reads (x .label) ≡ r → Low (x .label) ≡ s → shown Reads (Full x) ≡ shown Reads (visible Low (Full x))
+      tests : (r s : Bool) → Reads (x .label) ≡ r → Low (x .label) ≡ s → shown Reads (Full x) ≡ shown Reads (shown Low (Full x))
       tests r true e f = rw f
       tests true false e f = absurd (true≢false (sym (within (x .label) e) ∙ f))
       tests false false e f = rw (e, f)
@@ -72,4 +72,4 @@ module _ (Reads Low : Label → Bool) (within : (l : Label) → Reads l ≡ true
       )
     where
       each : (p : ℕ) → shown Reads (at (o .store) p) ≡ shown Reads (at (q .store) p)
-      each p = shown-visible (at (o .store) p) ∙ ap (shown Reads) (m .stores .alike p) ∙ sym (shown-visible (at (q .store) p))
+      each p = shown-twice (at (o .store) p) ∙ ap (shown Reads) (m .stores .alike p) ∙ sym (shown-twice (at (q .store) p))

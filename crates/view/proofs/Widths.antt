@@ -6,16 +6,17 @@ use Prim.Native.Nat.{ℕ, suc, _+_, _-_, _*_, _≤_}
 use native.Mathlib.Omega.{arith}
 use lib.ListN.{length, replicate}
 use Rattle.labels.specs.declared.Label.{Label}
-use Rattle.model.specs.State.{Account, Store, Outcome}
+use Rattle.model.specs.State.{Store, Outcome, shown}
+use Rattle.model.specs.declared.Account.{Account}
 use Rattle.model.specs.declared.Slot.{Slot}
 use Rattle.model.specs.declared.Slot.the-variants.{Empty, Full}
 use Rattle.model.specs.declared.Ending.{Ending}
 use Rattle.view_fields.specs.Fields.{recordWidth, labelField, endingNumber, resultField}
 use Rattle.view_fields.specs.Writing.{numbers}
 use Rattle.view_fields.proofs.Widths.{length-two, length-numbers, length-label, length-result, length-record}
-use Rattle.view.specs.Layout.{shown, slotField, recordFields, one, recordsShown, counts, final, viewLength, view}
+use Rattle.view.specs.Layout.{slotField, recordFields, one, recordsShown, counts, final, viewLength, view}
 use Rattle.view.specs.Writing.{finished}
-use Rattle.view.specs.declared.Finish.{Finish}
+use Rattle.model.specs.declared.Finished.{Finished}
 
 pub one-small : (x : Slot) → one x ≤ 1
 one-small Empty = omega arith
@@ -96,7 +97,7 @@ length-view Reads s o =
     sum n = omega arith
 
 -- A view depends on an account's label, clearance, steps and next place alone.
-pub view-finished : (Reads : Label → Bool) (s : ℕ) (o : Outcome) (f : Finish)
+pub view-finished : (Reads : Label → Bool) (s : ℕ) (o : Outcome) (f : Finished)
     → o .ending ≡ f .ending → o .account .label ≡ f .label → o .account .clearance ≡ f .clearance → o .account .steps ≡ f .steps
     → o .account .next ≡ f .next → view Reads s o ≡ view Reads s (finished f (o .store))
 unfolding view counts final

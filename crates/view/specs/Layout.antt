@@ -4,7 +4,8 @@ use mathlib.Core.List.{List, [], _∷_, _++_}
 use Prim.Native.Nat.{ℕ, suc, _+_, _-_, _*_}
 use lib.ListN.{replicate}
 use Rattle.labels.specs.declared.Label.{Label}
-use Rattle.model.specs.State.{Account, Store, Outcome}
+use Rattle.model.specs.State.{Store, Outcome, shown}
+use Rattle.model.specs.declared.Account.{Account}
 use Rattle.model.specs.declared.Slot.{Slot}
 use Rattle.model.specs.declared.Slot.the-variants.{Empty, Full}
 use Rattle.model.specs.declared.Ending.{Ending}
@@ -15,11 +16,6 @@ abbrev pub recordsAt : ℕ
 recordsAt = 62
 
 -- ── records ──
-
--- a record is shown only if its label flows to the reader; Reads says which labels do
-unfoldable pub shown : (Label → Bool) → Slot → Slot
-shown Reads Empty = Empty
-shown Reads (Full r) = cond (Reads (r .label)) (Full r) Empty
 
 unfoldable pub slotField : ℕ → Slot → List ℕ
 slotField p Empty = []

@@ -9,12 +9,8 @@ use Rattle.script_file.specs.Sections.{header, labelAt}
 use Rattle.script_file.specs.Checks.{refusal}
 use Rattle.script_file.specs.Program.{fileRun}
 use Rattle.view.specs.Layout.{view}
-
-pub data Answer : Type 0 where
-  -- with a number from 1 to 9
-  refused : ℕ → Answer
-  -- with the view's length
-  viewed : ℕ → Answer
+use Rattle.view.specs.declared.Answer.{Answer}
+use Rattle.view.specs.declared.Answer.the-variants.{Refused, Viewed}
 
 pub record Reading : Type 0 where
   pub answer : Answer
@@ -26,13 +22,13 @@ fileView bs i = view (λ l. flows l (labelAt bs i)) (header bs .steps) (fileRun 
 
 -- "the output buffer is untouched"
 abbrev pub refuse : ℕ → List ℕ → Reading
-refuse n buffer = record { answer = refused n; buffer = buffer }
+refuse n buffer = record { answer = Refused n; buffer = buffer }
 
 -- "The buffer beyond the length is untouched." 9: the buffer is shorter than the view.
 abbrev pub show : List ℕ → List ℕ → Reading
 show v buffer =
     cond (leb (length v) (length buffer))
-    (record { answer = viewed (length v); buffer = v ++ drop (length v) buffer })
+    (record { answer = Viewed (length v); buffer = v ++ drop (length v) buffer })
     (refuse 9 buffer)
 
 -- 8: the reading label's index is L or more

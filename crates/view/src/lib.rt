@@ -1,8 +1,9 @@
 // The view: what a reading label, the observer, is shown of a run that has ended, written into a buffer that the caller
 // lends.
 use labels::Label;
-use model::Ending;
+use model::Finished;
 use model::Slot;
+use store::PLACES;
 use view_fields::LABEL;
 use view_fields::NUMBER;
 use view_fields::RECORD;
@@ -10,20 +11,19 @@ use view_fields::VALUE;
 ghost use mathlib.Core.Path.{_≡_};
 ghost use Prim.Native.Nat.{_-_, _*_, _≤_};
 ghost use lib.ListN.{length};
+ghost use Rattle.model.specs.State;
 ghost use Rattle.store.specs.Slots.{words, slots};
 ghost use Rattle.view_fields.specs.Fields.{recordWidth};
 ghost use Rattle.view_fields.specs.Writing.{over};
 ghost use Rattle.view.specs.Layout.{recordFields, recordsShown, counts, final, viewLength, view};
-ghost use Rattle.view.specs.Writing.{reads, closing, finished};
+ghost use Rattle.view.specs.Writing.{observes, closing, finished};
 
-// What a run leaves for its view, beside the store: how it ended, its last label and clearance, the steps that it
-// had left, and the next place.
-pub struct Finish {
-    pub ending: Ending,
-    pub label: Label,
-    pub clearance: Label,
-    pub steps: usize,
-    pub next: usize,
+// What a read comes to.
+pub enum Answer {
+    // The number of the check that stops it, 1 to 9; the buffer is untouched.
+    Refused(u64),
+    // How many bytes the view has; the buffer behind them is untouched.
+    Viewed(usize),
 }
 
 // ---- the offsets of a view, in bytes
@@ -42,14 +42,11 @@ const FINAL_CLEARANCE: usize = VALUE + LABEL;
 
 const FINAL: usize = VALUE + 2 * LABEL;
 
-// How many places the store has.
-const PLACES: usize = 256;
-
 // ---- records
 
 // A slot as the reader may observe it: empty unless its record's label flows to the reader.
 fn shown(reader: Label, slot: Slot) -> Slot
-    ensures { λ r. ⌜ r ≡ Rattle.view.specs.Layout.shown (reads reader) slot ⌝ }
+    ensures { λ r. ⌜ r ≡ State.shown (observes reader) slot ⌝ }
 {
     match slot {
         Slot::Empty => Slot::Empty,
@@ -75,7 +72,7 @@ fn one(slot: Slot) -> usize
 // How many records the reader is shown.
 fn records_shown(reader: Label, store: &[u64]) -> usize
     requires { ⌜ length (now store) ≡ words ⌝ }
-    ensures { λ r. ⌜ (r ≤ 256) × (r ≡ recordsShown (reads reader) (slots (now (store .entry)))) ⌝ }
+    ensures { λ r. ⌜ (r ≤ 256) × (r ≡ recordsShown (observes reader) (slots (now (store .entry)))) ⌝ }
 {
     let mut n = 0;
     let mut p = 0;
@@ -89,8 +86,8 @@ fn records_shown(reader: Label, store: &[u64]) -> usize
 // Writes the records that the reader is shown, by rising place.
 fn write_records(reader: Label, store: &[u64], out: &mut [u8])
     requires { ⌜ length (now store) ≡ words ⌝ }
-    requires { ⌜ recordWidth * recordsShown (reads reader) (slots (now store)) ≤ length (now out) ⌝ }
-    ensures { λ _. ⌜ now (out .exit) ≡ over (recordFields (reads reader) 0 (slots (now (store .entry)))) (now (out .entry)) ⌝ }
+    requires { ⌜ recordWidth * recordsShown (observes reader) (slots (now store)) ≤ length (now out) ⌝ }
+    ensures { λ _. ⌜ now (out .exit) ≡ over (recordFields (observes reader) 0 (slots (now (store .entry)))) (now (out .entry)) ⌝ }
 {
     let mut at = 0;
     let mut p = 0;
@@ -111,7 +108,7 @@ fn write_records(reader: Label, store: &[u64], out: &mut [u8])
 // How many bytes the view has. It is known before the first of them is written.
 pub fn view_length(reader: Label, store: &[u64]) -> usize
     requires { ⌜ length (now store) ≡ words ⌝ }
-    ensures { λ r. ⌜ r ≡ viewLength (reads reader) (slots (now (store .entry))) ⌝ }
+    ensures { λ r. ⌜ r ≡ viewLength (observes reader) (slots (now (store .entry))) ⌝ }
 {
     RECORDS + RECORD * records_shown(reader, store)
 }
@@ -127,9 +124,9 @@ fn used(all: usize, left: usize) -> usize
 }
 
 // Ending, steps used and next place; zeros if the run's last label doesn't flow to the reader.
-fn write_counts(reader: Label, steps: usize, finish: Finish, out: &mut [u8])
+fn write_counts(reader: Label, steps: usize, finish: Finished, out: &mut [u8])
     requires { ⌜ 6 ≤ length (now out) ⌝ }
-    ensures { λ _. ⌜ now (out .exit) ≡ over (counts (reads reader) steps (finish .ending) (closing finish)) (now (out .entry)) ⌝ }
+    ensures { λ _. ⌜ now (out .exit) ≡ over (counts (observes reader) steps (finish .ending) (closing finish)) (now (out .entry)) ⌝ }
 {
     let ending = finish.ending;
     let last = finish.label;
@@ -146,9 +143,9 @@ fn write_counts(reader: Label, steps: usize, finish: Finish, out: &mut [u8])
 }
 
 // Result, label and clearance; zeros likewise.
-fn write_final(reader: Label, finish: Finish, out: &mut [u8])
+fn write_final(reader: Label, finish: Finished, out: &mut [u8])
     requires { ⌜ 50 ≤ length (now out) ⌝ }
-    ensures { λ _. ⌜ now (out .exit) ≡ over (final (reads reader) (finish .ending) (closing finish)) (now (out .entry)) ⌝ }
+    ensures { λ _. ⌜ now (out .exit) ≡ over (final (observes reader) (finish .ending) (closing finish)) (now (out .entry)) ⌝ }
 {
     let ending = finish.ending;
     let label = finish.label;
@@ -163,10 +160,10 @@ fn write_final(reader: Label, finish: Finish, out: &mut [u8])
 }
 
 // Writes the view of a run that was given `steps` steps, and leaves the buffer behind it as it was.
-pub fn write_view(reader: Label, steps: usize, finish: Finish, store: &[u64], out: &mut [u8])
+pub fn write_view(reader: Label, steps: usize, finish: Finished, store: &[u64], out: &mut [u8])
     requires { ⌜ length (now store) ≡ words ⌝ }
-    requires { ⌜ viewLength (reads reader) (slots (now store)) ≤ length (now out) ⌝ }
-    ensures { λ _. ⌜ now (out .exit) ≡ over (view (reads reader) steps (finished finish (slots (now (store .entry))))) (now (out .entry)) ⌝ }
+    requires { ⌜ viewLength (observes reader) (slots (now store)) ≤ length (now out) ⌝ }
+    ensures { λ _. ⌜ now (out .exit) ≡ over (view (observes reader) steps (finished finish (slots (now (store .entry))))) (now (out .entry)) ⌝ }
 {
     let n = records_shown(reader, store);
     write_counts(reader, steps, finish, out);

@@ -4,7 +4,7 @@ use mathlib.Core.Path.{_≡_, sym, ap, _∙_}
 use Prim.Native.Nat.{ℕ, _≤_}
 use native.Mathlib.Omega.{arith}
 use lib.ListN.{length}
-use Rattle.label_entries.specs.Entry.{secrecyMasks, integrityMasks, entryLength, readFormula}
+use Rattle.label_entries.specs.Entries.{secrecyMasks, integrityMasks, entryLength, readFormula}
 use Rattle.label_entries.proofs.Reading.{refused, secrecy-part, integrity-part, secrecy-refused, integrity-refused, both-read}
 use borrow.Author.Needs.{needs}
 use Rattle.label_entries.proofs.read_entry.Statement.{statement}

@@ -6,7 +6,7 @@ use native.Mathlib.Omega.{arith}
 use lib.ListN.{length}
 use Rattle.script_file.specs.declared.Header.{Header}
 use Rattle.reading.specs.Answers.{Loads}
-use Rattle.reading.proofs.Calls.{records-first, code-within, records-short, code-short, inputs-fit, places-fit, run-is, finishes}
+use Rattle.reading.proofs.Calls.{records-first, code-within, records-short, code-short, inputs-fit, places-fit, run-is}
 use borrow.Author.Needs.{needs}
 use Rattle.reading.proofs.run_file.Statement.{statement}
 use Rattle.reading.proofs.run_file.Tie as tie
@@ -54,8 +54,7 @@ returns c =
     let l2 : tie.After-label-at2 = search in
     let l : tie.After-label-at = search in
     let b : tie.Start = search in
-    finishes _ _ _ _ _ (c .finish .ensures) (x .execute .ensures)
-    (run-is (bs b) (h b) (ws b) (loads b) _ _ _ (l .label-at .ensures) (l2 .label-at2 .ensures) (p .place-inputs .ensures))
+    rw (run-is (bs b) (h b) (ws b) (loads b) _ _ _ (l .label-at .ensures) (l2 .label-at2 .ensures) (p .place-inputs .ensures)) at (x .execute .ensures)
 
 pub run-file-spec : {M : Type 1} → statement M
 run-file-spec =
@@ -74,6 +73,5 @@ run-file-spec =
     (λ c. omega (arith, first (search)))
     (λ c. omega (arith, within (search)))
     execute-requires
-    (search needs)
     (search needs)
     returns)

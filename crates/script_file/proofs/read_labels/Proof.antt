@@ -7,7 +7,7 @@ use lib.ListN.{length, drop, length-drop, drop-of-length-le}
 use lib.Seq.{drop-drop}
 use borrow.Rule.Slice.PartAt.{part-to-end}
 use Rattle.labels.specs.declared.Label.{Label}
-use Rattle.label_entries.specs.Entry.{readEntry}
+use Rattle.label_entries.specs.Entries.{readEntry}
 use Rattle.label_entries.specs.declared.Entry.the-variants.{Read}
 use Rattle.script_file.specs.Sections.{readLabels}
 use Rattle.script_file.specs.Loading.{labelWords}

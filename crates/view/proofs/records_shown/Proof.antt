@@ -3,10 +3,10 @@ use mathlib.Core.Path.{_≡_, ap, _∙_}
 use native.Mathlib.Omega.{arith}
 use Prim.Native.Nat.{_+_, _-_, _≤_}
 use lib.ListN.{drop}
-use Rattle.model.specs.State.{at}
+use Rattle.model.specs.State.{at, shown}
 use Rattle.store.specs.Slots.{slots}
-use Rattle.view.specs.Layout.{one, shown, recordsShown}
-use Rattle.view.specs.Writing.{reads as reading}
+use Rattle.view.specs.Layout.{one, recordsShown}
+use Rattle.view.specs.Writing.{observes as reading}
 use Rattle.view.proofs.Widths.{one-small}
 use Rattle.view.proofs.Places.{count-here, count-nothing}
 use borrow.Author.Needs.{needs}

@@ -1,6 +1,6 @@
 -- `view::shown` meets its contract. Assumes nothing.
 use mathlib.Core.Path.{sym, _∙_}
-use Rattle.view.specs.Layout.{shown}
+use Rattle.model.specs.State.{shown}
 use borrow.Author.Needs.{needs}
 use Rattle.view.proofs.shown.Statement.{statement}
 use Rattle.view.proofs.shown.Tie as tie

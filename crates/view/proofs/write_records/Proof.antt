@@ -7,8 +7,8 @@ use Prim.Native.Nat.{ℕ, _+_, _-_, _≤_, _<_}
 use lib.ListN.{length}
 use Rattle.model.specs.State.{at as slotAt}
 use Rattle.store.specs.Slots.{slots}
-use Rattle.view.specs.Layout.{shown}
-use Rattle.view.specs.Writing.{reads as reading}
+use Rattle.model.specs.State.{shown}
+use Rattle.view.specs.Writing.{observes as reading}
 use Rattle.view_fields.proofs.Buffers.{room-for}
 use Rattle.view.proofs.Places.{Written, none-yet, all-written, room-here, written-here, hidden-here}
 use borrow.Author.Needs.{needs}

@@ -10,8 +10,8 @@ use Rattle.model.specs.State.{Store}
 use Rattle.store.specs.Slots.{slots}
 use Rattle.view.specs.Layout.{recordFields, recordsShown, counts, final, viewLength, view}
 use Rattle.view_fields.specs.Writing.{over, numbers}
-use Rattle.view.specs.Writing.{closing, finished, reads as reading}
-use Rattle.view.specs.declared.Finish.{Finish}
+use Rattle.view.specs.Writing.{closing, finished, observes as reading}
+use Rattle.model.specs.declared.Finished.{Finished}
 use Rattle.view_fields.proofs.Buffers.{four}
 use Rattle.view_fields.proofs.Widths.{length-numbers}
 use Rattle.view.proofs.Widths.{length-counts, length-final, length-records, view-parts}
@@ -27,7 +27,7 @@ module _ (c : tie.After-records-shown) where
   abbrev R : Label → Bool
   R = reading (begun .args .reader)
 
-  abbrev f : Finish
+  abbrev f : Finished
   f = begun .args .finish
 
   abbrev σ : Store

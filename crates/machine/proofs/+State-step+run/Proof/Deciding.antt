@@ -11,9 +11,9 @@ use Rattle.model.specs.Running.{runs}
 use Rattle.store.specs.Slots.{words, slots}
 use Rattle.operands.specs.declared.Effect.{Effect}
 use Rattle.operands.specs.declared.Decision.{Decision}
-use Rattle.operands.specs.declared.Plan.{Plan}
+use Rattle.operands.specs.declared.Task.{Task}
 use Rattle.operands.specs.Program.{program}
-use Rattle.effects.specs.Decisions.{lent, decisionOf}
+use Rattle.effects.specs.Decisions.{decisionOf}
 use Rattle.effects.proofs.Taking.{FitsEffect, Cleared, Good}
 use Rattle.machine.specs.declared.State.{State}
 use Rattle.machine.specs.State.{Ok, control, account, nextOf}
@@ -41,19 +41,19 @@ module _ (t : ℕ) where
     pub kept-store : length σ₀ ≡ words
     kept-store = top t planned .loop .inv .1
 
-    -- by each of the three ways of a plan
-    pub decides : d ≡ decisionOf (planned .plan-of .result) (y t planned) (x t planned) (lent (account (arm t planned))) (slots σ₀)
+    -- by each of the three cases of a task
+    pub decides : d ≡ decisionOf (planned .task-of .result) (y t planned) (x t planned) (account (arm t planned)) (slots σ₀)
     decides =
-        ⊎-elim (λ w. w .3 ∙ ap (λ (p : Plan). decisionOf p (y t planned) (x t planned) (lent (account (arm t planned))) (slots σ₀)) (sym (w .1 .given .1)))
-        (⊎-elim (λ w. w .6 ∙ w .5 .ensures ∙ ap (λ (p : Plan). decisionOf p (y t planned) (x t planned) (lent (account (arm t planned))) (slots σ₀)) (sym (w .1 .given .1)))
-        (λ w. w .8 ∙ (rw (w .5 .ensures) at (w .7 .ensures)) ∙ ap (λ (p : Plan). decisionOf p (y t planned) (x t planned) (lent (account (arm t planned))) (slots σ₀)) (sym (w .1 .given .1))))
+        ⊎-elim (λ w. w .3 ∙ ap (λ (p : Task). decisionOf p (y t planned) (x t planned) (account (arm t planned)) (slots σ₀)) (sym (w .1 .given .1)))
+        (⊎-elim (λ w. w .6 ∙ w .5 .ensures ∙ ap (λ (p : Task). decisionOf p (y t planned) (x t planned) (account (arm t planned)) (slots σ₀)) (sym (w .1 .given .1)))
+        (λ w. w .8 ∙ (rw (w .5 .ensures) at (w .7 .ensures)) ∙ ap (λ (p : Task). decisionOf p (y t planned) (x t planned) (account (arm t planned)) (slots σ₀)) (sym (w .1 .given .1))))
         (c .match .came)
 
     pub good : Good (code t (top t planned)) (ws t (top t planned)) (rs t (top t planned)) (runs (program (code t (top t planned)) (ws t (top t planned)) (rs t (top t planned)))) (control (arm t planned)) (account (arm t planned)) (slots σ₀) (y t planned) (x t planned) d
         (stepOf (code t (top t planned)) (ws t (top t planned)) (rs t (top t planned)) (now-paid t planned) (slots σ₀))
     good =
         found (code t (top t planned)) (ws t (top t planned)) (rs t (top t planned)) (now-paid t planned) (slots σ₀) (f t planned) _ _ d (ok t planned) (first t planned .least .ensures) (second t planned .least2 .ensures) (read t planned .decode .ensures)
-        (decides ∙ ap (λ (p : Plan). decisionOf p (y t planned) (x t planned) (lent (account (arm t planned))) (slots σ₀)) (planned .plan-of .ensures))
+        (decides ∙ ap (λ (p : Task). decisionOf p (y t planned) (x t planned) (account (arm t planned)) (slots σ₀)) (planned .task-of .ensures))
 
     -- the operands are there
     pub there : arm t planned .top + d .takes ≤ 32

@@ -1,4 +1,4 @@
--- `State::step` up to an instruction's plan: what is known at the loop's head, with the step paid, and with the plan made.
+-- `State::step` up to an instruction's task: what is known at the loop's head, with the step paid, and with the task known.
 use mathlib.Core.List.{List}
 use mathlib.Core.Path.{_≡_, sym, ap, _∙_}
 use Prim.Native.Nat.{ℕ, _+_, _-_, _<_, _≤_}
@@ -18,7 +18,7 @@ use Rattle.machine.proofs.Turns.{stepOf, Turn, turn, Through, through}
 use Rattle.machine.proofs.+State-step+run.Proof.Places.{Inside-loop, Start, Head, Asked, Going, Paid, First, Second, Read, Planned}
 
 module _ (t : ℕ) where
-  -- ── up to the plan ──
+  -- ── up to the task ──
 
   module _ (h : Head t) where
     abbrev pub begun : Start t

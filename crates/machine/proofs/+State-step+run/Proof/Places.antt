@@ -34,7 +34,7 @@ use Rattle.values.proofs.present.Reads as present-reads
 use Rattle.values.proofs.same.Reads as same-reads
 use Rattle.values.proofs.label_in.Reads as label-in-reads
 use Rattle.operands.proofs.on_numbers.Reads as on-numbers-reads
-use Rattle.operands.proofs.plan_of.Reads as plan-of-reads
+use Rattle.operands.proofs.task_of.Reads as task-of-reads
 use Rattle.store.proofs.label_of.Reads as label-of-reads
 use Rattle.store.proofs.rewrite.Reads as rewrite-reads
 use Rattle.store.proofs.value_of.Reads as value-of-reads
@@ -77,8 +77,8 @@ module _ (t : ℕ) where
     least-reads.Learnt,
     decode-reads.Asked,
     decode-reads.Learnt,
-    plan-of-reads.Asked,
-    plan-of-reads.Learnt,
+    task-of-reads.Asked,
+    task-of-reads.Learnt,
     on-numbers-reads.Asked,
     on-numbers-reads.Learnt,
     account-reads.Asked,
@@ -123,7 +123,7 @@ module _ (t : ℕ) where
     conclude-reads.Learnt,
   )
 
-  -- its places: the entry, the loop's head, a turn that goes on with its step paid, its instruction read, its plan made, its
+  -- its places: the entry, the loop's head, a turn that goes on with its step paid, its instruction read, its task known, its
   -- decision taken, its operands dropped; then each effect's
 
   abbrev pub Start : Type 0
@@ -151,7 +151,7 @@ module _ (t : ℕ) where
   Read = step-lts.After-decode calls (step-at t) step.Post Inv-loop μ-loop
 
   abbrev pub Planned : Type 0
-  Planned = step-lts.After-plan-of calls (step-at t) step.Post Inv-loop μ-loop
+  Planned = step-lts.After-task-of calls (step-at t) step.Post Inv-loop μ-loop
 
   abbrev pub Here : Type 0
   Here = step-lts.At-match-came calls (step-at t) step.Post Inv-loop μ-loop
@@ -228,8 +228,8 @@ module _ (t : ℕ) where
   abbrev pub Inside-loop : Type 0
   Inside-loop = step-lts.In-loop calls (step-at t) step.Post Inv-loop μ-loop
 
-  abbrev pub Lent : Type 0
-  Lent = step-lts.After-account calls (step-at t) step.Post Inv-loop μ-loop
+  abbrev pub Accounted : Type 0
+  Accounted = step-lts.After-account calls (step-at t) step.Post Inv-loop μ-loop
 
   abbrev pub Numbered : Type 0
   Numbered = step-lts.After-number calls (step-at t) step.Post Inv-loop μ-loop

@@ -13,7 +13,7 @@ use Rattle.machine.proofs.Applying.{does-end-fault, does-catch, does-dr
 use Rattle.machine.proofs.Turns.{turns-stay, turns-none, is-ready, Inside, inside}
 use Rattle.machine.proofs.State.step.Reads as step
 use Rattle.machine.proofs.+State-step+run.Lts-State-step as step-lts
-use Rattle.machine.proofs.+State-step+run.Proof.Places.{Dropped, Lent, Numbered, Named, Upper, Below, Both, Local, Stored, Copied, Raising, Risen, Lowering, Making, Kept, Rewritten, Opening, Opened, Open-risen, Bound, Bodied, Ran-body, Charged, step-at, Inv-loop, μ-loop, calls, Start, Head, Asked, Paid, Planned, Faults, Raised, Caught, Ends, Blocks, Concluded, Drops, Jumps, Numbers, Handles, Labels, Pairs, Gets, Sets, Tries, Leaves, Raises, Lowers, Makes, Writes, Opens}
+use Rattle.machine.proofs.+State-step+run.Proof.Places.{Dropped, Accounted, Numbered, Named, Upper, Below, Both, Local, Stored, Copied, Raising, Risen, Lowering, Making, Kept, Rewritten, Opening, Opened, Open-risen, Bound, Bodied, Ran-body, Charged, step-at, Inv-loop, μ-loop, calls, Start, Head, Asked, Paid, Planned, Faults, Raised, Caught, Ends, Blocks, Concluded, Drops, Jumps, Numbers, Handles, Labels, Pairs, Gets, Sets, Tries, Leaves, Raises, Lowers, Makes, Writes, Opens}
 use Rattle.machine.proofs.+State-step+run.Proof.Loop.{begun, code, ws, rs, sizes, head, top, ok, now-most}
 use Rattle.machine.proofs.+State-step+run.Proof.Deciding.{now-dropped, now-ok, here, kept-store, at-hand, again, now-dropped-steps, room-numbers, room-handles, room-labels, room-pairs, room-gets, room-tries, room-leaves, room-makes, room-opens, clear, room-blocks, new-frame, stopped, under, block-of, dropped-of}
 
@@ -37,7 +37,7 @@ module _ (t : ℕ) where
   decode-requires c κs = let p : Paid t = search in begun t (head t p) .pre .1 .1 .code
 
   pub on-labels-requires : step-lts.Need-on-labels-requires (calls t) (step-at t) step.Post Inv-loop μ-loop
-  on-labels-requires c κs = let a : Lent t = search in let p : Planned t = search in (rw (a .account .ensures) (ok t p .places .used), top t p .loop .inv .1)
+  on-labels-requires c κs = let a : Accounted t = search in let p : Planned t = search in (rw (a .account .ensures) (ok t p .places .used), top t p .loop .inv .1)
 
   pub loop-again : step-lts.Need-loop-again (calls t) (step-at t) step.Post Inv-loop μ-loop
   loop-again c = let g : Faults t = search in

@@ -30,8 +30,8 @@ use Rattle.operands.specs.declared.NumberTask.the-variants.{Test as OnOn
 use Rattle.operands.specs.declared.OnLabel.the-variants.{Raise as Raises, Lower as Lowers, Make as Makes, Block as Blocks}
 use Rattle.operands.specs.declared.OnHandle.the-variants.{Open as Opens, Label as LabelOf, Write as Writes}
 use Rattle.operands.specs.declared.LabelTask.the-variants.{Pair as OnPair, Label as OnLabel, Handle as OnHandle}
-use Rattle.operands.specs.declared.Plan.{Plan}
-use Rattle.operands.specs.declared.Plan.the-variants.{Do, Numbers, Labels}
+use Rattle.operands.specs.declared.Task.{Task}
+use Rattle.operands.specs.declared.Task.the-variants.{Do, Numbers, Labels}
 use Rattle.operands.specs.Program.{count}
 
 abbrev pub decided : ℕ → Effect → Decision
@@ -96,50 +96,50 @@ labelsOf f y x = withLabel y (λ m. withLabel x (λ l. pairOf f m l))
 -- ── the instructions: h values are on the stack, f frames are held ──
 
 -- 20
-abbrev pub shortOf : ℕ → ℕ → Plan → Plan
+abbrev pub shortOf : ℕ → ℕ → Task → Task
 shortOf h k p = cond (ltb h k) (Do (faulty 20)) p
 
 -- 21
-abbrev pub pushOf : ℕ → Effect → Plan
+abbrev pub pushOf : ℕ → Effect → Task
 pushOf h e = cond (ltb 31 h) (Do (faulty 21)) (Do (decided 0 e))
 
-abbrev pub tryOf : ℕ → ℕ → ℕ → Plan
+abbrev pub tryOf : ℕ → ℕ → ℕ → Task
 tryOf h f t = cond (ltb 30 h) (Do (faulty 21)) (cond (ltb f 8) (Do (decided 0 (Tries t))) (Do (faulty 29)))
 
-abbrev pub doneOf : ℕ → Plan
+abbrev pub doneOf : ℕ → Task
 doneOf f = cond (eqb f 0) (Do (faulty 29)) (Do (decided 0 Leaves))
 
 abbrev pub inputOf : List ℕ → ℕ → Effect
 inputOf rs i = cond (ltb i (count rs)) (GivesHandle (kindOf (byte rs (6 * i))) i) (Gives 0)
 
-unfoldable pub planOf : Instr → ℕ → ℕ → List ℕ → Plan
-planOf End h f rs = shortOf h 1 (Do (decided 1 Ends))
-planOf (Push n) h f rs = pushOf h (Gives n)
-planOf (Lab i) h f rs = pushOf h (GivesLabel (File i))
-planOf (Get i) h f rs = pushOf h (Gets i)
-planOf (Set i) h f rs = shortOf h 1 (Do (decided 1 (Sets i)))
-planOf Pop h f rs = shortOf h 1 (Do (decided 1 Drop))
-planOf Add h f rs = shortOf h 2 (Numbers (OnTwo Adds))
-planOf Sub h f rs = shortOf h 2 (Numbers (OnTwo Subs))
-planOf Less h f rs = shortOf h 2 (Numbers (OnTwo Lesser))
-planOf Same h f rs = shortOf h 2 (Numbers (OnTwo Equal))
-planOf (Jump t) h f rs = Do (decided 0 (Jumps t))
-planOf (Ifz t) h f rs = shortOf h 1 (Numbers (OnOne (Branch t)))
-planOf Cur h f rs = pushOf h (GivesLabel Current)
-planOf Clr h f rs = pushOf h (GivesLabel Clearance)
-planOf Raise h f rs = shortOf h 1 (Labels (OnLabel Raises))
-planOf Lower h f rs = shortOf h 1 (Labels (OnLabel Lowers))
-planOf Flows h f rs = shortOf h 2 (Labels (OnPair Flowing))
-planOf Join h f rs = shortOf h 2 (Labels (OnPair Joining))
-planOf Meet h f rs = shortOf h 2 (Labels (OnPair Meeting))
-planOf Seal h f rs = shortOf h 2 (Labels (OnLabel (Makes Sealed)))
-planOf Open h f rs = shortOf h 1 (Labels (OnHandle (Opens Sealed)))
-planOf Labof h f rs = shortOf h 1 (Labels (OnHandle LabelOf))
-planOf New h f rs = shortOf h 2 (Labels (OnLabel (Makes Reference)))
-planOf Read h f rs = shortOf h 1 (Labels (OnHandle (Opens Reference)))
-planOf Write h f rs = shortOf h 2 (Labels (OnHandle Writes))
-planOf (Block t n k) h f rs = shortOf h 1 (Labels (OnLabel (Blocks t n k)))
-planOf (Try t) h f rs = tryOf h f t
-planOf Done h f rs = doneOf f
-planOf Throw h f rs = shortOf h 1 (Numbers (OnOne Throws))
-planOf (Input i) h f rs = pushOf h (inputOf rs i)
+unfoldable pub taskOf : Instr → ℕ → ℕ → List ℕ → Task
+taskOf End h f rs = shortOf h 1 (Do (decided 1 Ends))
+taskOf (Push n) h f rs = pushOf h (Gives n)
+taskOf (Lab i) h f rs = pushOf h (GivesLabel (File i))
+taskOf (Get i) h f rs = pushOf h (Gets i)
+taskOf (Set i) h f rs = shortOf h 1 (Do (decided 1 (Sets i)))
+taskOf Pop h f rs = shortOf h 1 (Do (decided 1 Drop))
+taskOf Add h f rs = shortOf h 2 (Numbers (OnTwo Adds))
+taskOf Sub h f rs = shortOf h 2 (Numbers (OnTwo Subs))
+taskOf Less h f rs = shortOf h 2 (Numbers (OnTwo Lesser))
+taskOf Same h f rs = shortOf h 2 (Numbers (OnTwo Equal))
+taskOf (Jump t) h f rs = Do (decided 0 (Jumps t))
+taskOf (Ifz t) h f rs = shortOf h 1 (Numbers (OnOne (Branch t)))
+taskOf Cur h f rs = pushOf h (GivesLabel Current)
+taskOf Clr h f rs = pushOf h (GivesLabel Clearance)
+taskOf Raise h f rs = shortOf h 1 (Labels (OnLabel Raises))
+taskOf Lower h f rs = shortOf h 1 (Labels (OnLabel Lowers))
+taskOf Flows h f rs = shortOf h 2 (Labels (OnPair Flowing))
+taskOf Join h f rs = shortOf h 2 (Labels (OnPair Joining))
+taskOf Meet h f rs = shortOf h 2 (Labels (OnPair Meeting))
+taskOf Seal h f rs = shortOf h 2 (Labels (OnLabel (Makes Sealed)))
+taskOf Open h f rs = shortOf h 1 (Labels (OnHandle (Opens Sealed)))
+taskOf Labof h f rs = shortOf h 1 (Labels (OnHandle LabelOf))
+taskOf New h f rs = shortOf h 2 (Labels (OnLabel (Makes Reference)))
+taskOf Read h f rs = shortOf h 1 (Labels (OnHandle (Opens Reference)))
+taskOf Write h f rs = shortOf h 2 (Labels (OnHandle Writes))
+taskOf (Block t n k) h f rs = shortOf h 1 (Labels (OnLabel (Blocks t n k)))
+taskOf (Try t) h f rs = tryOf h f t
+taskOf Done h f rs = doneOf f
+taskOf Throw h f rs = shortOf h 1 (Numbers (OnOne Throws))
+taskOf (Input i) h f rs = pushOf h (inputOf rs i)
