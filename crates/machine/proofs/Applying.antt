@@ -202,7 +202,7 @@ module _ (z : Decided) where
   -- ── BLOCK ──
 
   -- after a body: its steps and places are paid, and the outcome's handle is pushed
-  abbrev pub left : ℕ → ℕ → State
+  abbrev left : ℕ → ℕ → State
   left n j = record { stack = set (s .stack) (s .top - 1) (value (Handle Sealed (s .next))); top = s .top - 1; locals = s .locals; frames = s .frames; newest = s .newest; label = s .label; clearance = s .clearance; steps = s .steps - n; next = s .next + 1 + j; limit = s .limit; depth = s .depth; pc = s .pc; progress = s .progress }
 
   -- a body that has run, with the records τ, and whose outcome is sealed, with the records υ

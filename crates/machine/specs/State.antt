@@ -1,14 +1,11 @@
 -- What a run state of the code stands for, and what its methods make of it.
-use mathlib.Core.Bool.{Bool, true, false, cond}
+use mathlib.Core.Bool.{Bool, true, false}
 use mathlib.Core.Path.{_≡_}
 use mathlib.Core.List.{List}
 use Prim.Native.Nat.{ℕ, _+_, _-_, _≤_, min}
-use lib.Dec.{ltb}
 use lib.ListN.{length, getD, set, drop}
 use Rattle.labels.specs.declared.Label.{Label}
 use Rattle.labels.specs.Order.{join}
-use Rattle.model.specs.declared.Datum.{Datum}
-use Rattle.model.specs.declared.Datum.the-variants.{Number}
 use Rattle.model.specs.declared.Value.{Value}
 use Rattle.model.specs.declared.Frame.{Frame}
 use Rattle.model.specs.declared.Ending.{Ending}

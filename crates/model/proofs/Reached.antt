@@ -23,7 +23,7 @@ use Rattle.model.proofs.Landing.{Lands, Handlers, PlanLands, NextLands,
 -- ── the statement ──
 
 -- the script's part with its pc behind the instruction, and the plan of that instruction
-abbrev pub behind : Program → Control → Control
+abbrev behind : Program → Control → Control
 behind P c = jump (P .after (c .pc)) c
 
 abbrev pub nextPlan : Program → Control → Account → Plan
@@ -76,7 +76,7 @@ all l = true
 
 module _ (P : Program) (D : LowSet P all) (N : ℕ → Type 0) (sound : (pc : ℕ) → N pc → Lands N (P .after pc) (P .fetch pc)) where
   -- of a store: no handle in it is to an empty place
-  abbrev pub Closed : Store → Type 0
+  abbrev Closed : Store → Type 0
   Closed σ = LowEquivalent P all σ σ
 
   pub record Safe (c : Control) (a : Account) (σ : Store) : Type 0 where

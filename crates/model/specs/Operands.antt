@@ -6,7 +6,7 @@ use Prim.Native.Nat.{ℕ, _+_, _-_, _^_, _%_}
 use lib.Dec.{leb, ltb, eqb}
 use lib.ListN.{length, getD}
 use Rattle.labels.specs.declared.Label.{Label}
-use Rattle.model.specs.State.{Control, Program, value, number, withStack, withFrames, push, jump, setLocal}
+use Rattle.model.specs.State.{Control, Program, number, withStack, withFrames, push, jump, setLocal}
 use Rattle.model.specs.declared.Account.{Account}
 use Rattle.model.specs.declared.Kind.{Kind}
 use Rattle.model.specs.declared.Kind.the-variants.{Sealed, Reference}

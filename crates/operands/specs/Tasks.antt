@@ -85,7 +85,7 @@ pairOf Flowing m l = bitOf (flows l m)
 pairOf Joining m l = decided 2 (GivesPair JoinOf)
 pairOf Meeting m l = decided 2 (GivesPair MeetOf)
 
-abbrev pub withLabel : Datum → (Label → Decision) → Decision
+abbrev withLabel : Datum → (Label → Decision) → Decision
 withLabel (Number n) k = faulty 22
 withLabel (Labelled l) k = k l
 withLabel (Handle h p) k = faulty 22

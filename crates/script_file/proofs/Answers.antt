@@ -16,7 +16,7 @@ use Rattle.script_file.proofs.Tests.{lowest-each}
 use Rattle.script_file.proofs.Limits.{Counted, counted, Placed, placed}
 
 -- The answer's number is the lowest that applies.
-pub answer-number : (bs : List ℕ) → numberOf (loaded bs) ≡ refusal bs
+answer-number : (bs : List ℕ) → numberOf (loaded bs) ≡ refusal bs
 unfolding numberOf number loaded refusal
 answer-number bs = each (passes1 bs) (passes2 bs) (passes3 bs) (passes4 bs) (passes5 bs) (passes6 bs) (passes7 bs) where
   each : (a b c d e f g : Bool) → numberOf (answer (lowest 1 (a ∷ b ∷ c ∷ d ∷ e ∷ f ∷ g ∷ [])) (header bs)) ≡ lowest 1 (a ∷ b ∷ c ∷ d ∷ e ∷ f ∷ g ∷ [])

@@ -13,7 +13,7 @@ labelAt Empty = record { secrecy = 0; integrity = 0 }
 labelAt (Full r) = r .label
 
 -- the value of contents; the number 0 for a fault
-abbrev pub valueIn : Contents → Datum
+abbrev valueIn : Contents → Datum
 valueIn (Value d) = d
 valueIn (Fault code number) = Number 0
 
