@@ -88,8 +88,8 @@ popped k s = record { stack = s .stack; top = s .top + k; locals = s .locals; fr
 abbrev pub pushed : Value → State → State
 pushed v s = record { stack = set (s .stack) (s .top - 1) v; top = s .top - 1; locals = s .locals; frames = s .frames; newest = s .newest; label = s .label; clearance = s .clearance; steps = s .steps; next = s .next; limit = s .limit; depth = s .depth; pc = s .pc; progress = s .progress }
 
-abbrev pub raised : Label → State → State
-raised l s = record { stack = s .stack; top = s .top; locals = s .locals; frames = s .frames; newest = s .newest; label = join (s .label) l; clearance = s .clearance; steps = s .steps; next = s .next; limit = s .limit; depth = s .depth; pc = s .pc; progress = s .progress }
+abbrev pub labelRaised : Label → State → State
+labelRaised l s = record { stack = s .stack; top = s .top; locals = s .locals; frames = s .frames; newest = s .newest; label = join (s .label) l; clearance = s .clearance; steps = s .steps; next = s .next; limit = s .limit; depth = s .depth; pc = s .pc; progress = s .progress }
 
 abbrev pub charged : ℕ → State → State
 charged n s = record { stack = s .stack; top = s .top; locals = s .locals; frames = s .frames; newest = s .newest; label = s .label; clearance = s .clearance; steps = s .steps - n; next = s .next; limit = s .limit; depth = s .depth; pc = s .pc; progress = s .progress }

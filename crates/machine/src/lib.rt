@@ -17,7 +17,7 @@ ghost use Rattle.model.specs.Effects.{bodyAccount};
 ghost use Rattle.model.specs.Running.{runs, startControl, startAccount};
 ghost use Rattle.operands.specs.Program.{program, count};
 ghost use Rattle.store.specs.Slots.{slots};
-ghost use Rattle.machine.specs.State.{Ok, Ran, account, nextOf, endingOf, isLive, popped, pushed, raised, charged, ended, handled};
+ghost use Rattle.machine.specs.State.{Ok, Ran, account, nextOf, endingOf, isLive, popped, pushed, labelRaised, charged, ended, handled};
 ghost use Rattle.machine.specs.Steps.{Sizes, Finishes, begun, fresh};
 ghost use Rattle.machine.specs.Turns.{readyOf, turns};
 
@@ -89,7 +89,7 @@ impl State {
 
     // Joins a label to the current one.
     pub fn raise(mut self, l: Label) -> State
-        ensures { λ r. ⌜ r ≡ raised l self ⌝ }
+        ensures { λ r. ⌜ r ≡ labelRaised l self ⌝ }
     {
         let label = self.label;
         let raised = labels::join(label, l);

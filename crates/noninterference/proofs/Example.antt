@@ -29,7 +29,7 @@ use Rattle.noninterference.specs.Alike.{legible, inputLabel, Hidden, Ali
 
 -- L 2, C 1, N 13, S 20, K 2. Labels: public; ⟨player, True⟩, which is the clearance too. One sealed record, under ⟨player, True⟩,
 -- whose number's first byte is at 23. Code: LAB 1; BLOCK 9, 5 steps, 0 places; END; and the body, from 9 on: INPUT 0; OPEN; END.
-unfoldable template : List ℕ
+unfoldable pub template : List ℕ
 template =
     2 ∷ 0 ∷ 16 ∷ 0 ∷ 1 ∷ 0 ∷ 21 ∷ 0 ∷ 13 ∷ 0 ∷ 27 ∷ 0 ∷ 20 ∷ 0 ∷ 2 ∷ 0
     ∷ 0 ∷ 0 ∷ 1 ∷ 0 ∷ 1

@@ -8,7 +8,7 @@ use Prim.Native.Nat.{ℕ}
 use native.Mathlib.Omega.{arith}
 use denote.Ref.{now}
 use borrow.Author.Needs.{needs}
-use Rattle.machine.proofs.Indices.{value-offset, frame-offset, pushed-fits, in-locals, local-fits, next-frame-fits, place-fits, places-fit}
+use Rattle.machine.proofs.Indices.{value-offset, frame-offset, pushed-fits, pushed-low, in-locals, local-fits, next-frame-fits, place-fits, places-fit}
 use Rattle.machine.proofs.Turns.{ok-fresh, finishes}
 use Rattle.machine.proofs.State.step.Reads as step
 use Rattle.machine.proofs.+State-step+run.Lts-State-step as step-lts

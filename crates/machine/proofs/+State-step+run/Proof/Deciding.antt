@@ -74,7 +74,7 @@ module _ (t : ℕ) where
     abbrev place-second : ℕ
     place-second = second t (planned here) .least2 .result
 
-    applies : Applies (code t (top t (planned here))) (ws t (top t (planned here))) (rs t (top t (planned here))) now-dropped (slots (σ₀ here)) place-first place-second (d here .effect)
+    pub applies : Applies (code t (top t (planned here))) (ws t (top t (planned here))) (rs t (top t (planned here))) now-dropped (slots (σ₀ here)) place-first place-second (d here .effect)
         (stepOf (code t (top t (planned here))) (ws t (top t (planned here))) (rs t (top t (planned here))) (now-paid t (planned here)) (slots (σ₀ here)))
     applies =
         dropped (code t (top t (planned here))) (ws t (top t (planned here))) (rs t (top t (planned here))) (arm t (planned here)) now-dropped (slots (σ₀ here)) place-first place-second (d here) _ (ok t (planned here)) (live t (planned here)) (good here) (c .pop .ensures)
