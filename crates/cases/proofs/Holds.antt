@@ -20,7 +20,7 @@ use Rattle.model.specs.State.{shown}
 use Rattle.view.specs.Layout.{slotField, recordFields, recordsShown, counts, final, viewLength, view}
 use Rattle.view.specs.Reading.{fileView}
 use Rattle.lines.specs.Lines.{hex, frontFields, recordFieldWidths, widths, spaced, line, lines, refusedLine, printed}
-use Rattle.cases.specs.Table.{table as cases}
+use Rattle.cases.specs.Table.{cases}
 use Rattle.cases.specs.Example.{example, exampleLine}
 
 -- P1 to P12

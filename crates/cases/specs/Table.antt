@@ -3,5 +3,5 @@ use mathlib.Core.List.{List, _++_}
 use Rattle.labels.specs.Cases.{Case, labelCases}
 use Rattle.cases.specs.Machine.{machineCases}
 
-abbrev pub table : List Case
-table = labelCases ++ machineCases
+abbrev pub cases : List Case
+cases = labelCases ++ machineCases

@@ -18,7 +18,7 @@ tested f (x ∷ xs) zero = refl
 tested f (x ∷ xs) (suc i) = tested f xs i
 
 -- the opcodes whose operands have a limit: without theirs, all 30 instructions pass
-abbrev pub limited : List ℕ
+abbrev limited : List ℕ
 limited = 29 ∷ 26 ∷ 25 ∷ 11 ∷ 10 ∷ 4 ∷ 3 ∷ 2 ∷ []
 
 pub free-else : (l c : ℕ) (is code : List ℕ) (i op : ℕ) → NotAmong limited op → true ≡ operandsOk l c is (getD (instrs code i) op End)

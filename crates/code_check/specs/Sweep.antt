@@ -1,6 +1,6 @@
 -- Check 7. "Code: unknown opcode, cut operand, label index L or more, INPUT index C or more, local above 15, target not an
 -- instruction's start, or last instruction not END, JUMP or THROW."
-use mathlib.Core.Bool.{Bool, true, false, cond, _&&_, _||_}
+use mathlib.Core.Bool.{Bool, true, cond, _&&_, _||_}
 use mathlib.Core.List.{List, [], _∷_}
 use Prim.Native.Nat.{ℕ, zero, suc, _+_}
 use lib.Dec.{leb, ltb, eqb}

@@ -3,7 +3,7 @@ use mathlib.Core.Path.{_≡_}
 use Prim.Native.Nat.{ℕ, zero, suc, _≤_, zero-le}
 use native.Mathlib.Omega.{arith}
 
-abbrev pub NotBelow : ℕ → ℕ → Type 0
+abbrev NotBelow : ℕ → ℕ → Type 0
 NotBelow zero op = Unit {0}
 NotBelow (suc n) op = NotBelow n op × (op ≡ n → ⊥)
 

@@ -35,7 +35,7 @@ module _ {A : Type 0} (none : A) where
   elsewhere (k ∷ ks) xs i r = getD-set-other (cleared ks xs) k i none none (r .1) ∙ elsewhere ks xs i (r .0)
 
 -- the opcodes with operands: without theirs, the operand bytes sum to 0
-abbrev pub withOperands : List ℕ
+abbrev withOperands : List ℕ
 withOperands = 29 ∷ 26 ∷ 25 ∷ 11 ∷ 10 ∷ 4 ∷ 3 ∷ 2 ∷ 1 ∷ []
 
 pub size-else : (op : ℕ) → NotAmong withOperands op → size op ≡ 1

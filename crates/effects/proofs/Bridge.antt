@@ -38,7 +38,7 @@ use Rattle.operands.specs.declared.OnHandle.the-variants.{Open as Opens, Label 
 use Rattle.operands.specs.declared.Task.{Task}
 use Rattle.operands.specs.declared.Task.the-variants.{Do}
 use Rattle.operands.specs.Tasks.{decided, faulty, onNumber, arithOf, bitOf, numbersOf, testOf, pairOf, labelsOf, shortOf, pushOf, inputOf, taskOf}
-use Rattle.effects.specs.Decisions.{withLabel, onLabel, onHandle, decisionOf}
+use Rattle.effects.specs.Decisions.{withLabelOf, onLabel, onHandle, decisionOf}
 use Rattle.effects.proofs.Taking.{less, Bounded, Fits, Good, fit}
 use Rattle.effects.proofs.Popping.{Tops, pop-one, pop-below, plan-takes, plan-leaves, plan-plain}
 use Rattle.effects.proofs.Checking.{fault as failed, raise-good, lower-good, make-good, enter-good, open-good, label-good, write-good}
@@ -78,7 +78,7 @@ module _ (code ws rs : List ℕ) (R : Runner) (c : Control) (a : Account) (σ : 
 
   -- ── one label ──
 
-  on-label : (f : OnLabel) (x : Datum) (q : Label → Plan) → ((l : Label) → Does (Labelled l) x (withLabel f l a) (q l)) → (y : Datum) → Does y x (onLabel f y a) (asLabel y q)
+  on-label : (f : OnLabel) (x : Datum) (q : Label → Plan) → ((l : Label) → Does (Labelled l) x (withLabelOf f l a) (q l)) → (y : Datum) → Does y x (onLabel f y a) (asLabel y q)
   unfolding asLabel
   on-label f x q g (Number n) = fault (Number n) x 22
   on-label f x q g (Labelled l) = g l

@@ -13,7 +13,7 @@ use Rattle.model.specs.declared.Ending.the-variants.{Result}
 use Rattle.model.specs.State.{Control, Store, Runner, at, number, push, jump, setLocal, withStack, withFrames, withLabel, withClearance, withNext}
 use Rattle.model.specs.declared.Account.{Account}
 use Rattle.model.specs.Effects.{Next, go, stop, fail, holding, sealOutcome, bodyControl, bodyAccount}
-use Rattle.store.specs.Records.{labelAt, valueAt, rewritten}
+use Rattle.store.specs.Records.{recordLabel, recordValue, rewritten}
 use Rattle.operands.specs.Program.{program}
 use Rattle.operands.specs.Tasks.{labelOf, faulty}
 use Rattle.operands.specs.declared.Effect.{Effect}
@@ -95,7 +95,7 @@ module _ (code ws rs : List ℕ) (R : Runner) (c : Control) (a : Account) (σ : 
   settle (Make h) =
       go (push (Handle h (a .next)) c) (withNext (a .next + 1) a) (set σ (a .next) (holding h (labelOf y) (Holds x)))
   settle (Write p) = go c a (set σ p (rewritten x (at σ p)))
-  settle (Open p) = go (push (valueAt (at σ p)) c) (withLabel (join (a .label) (labelAt (at σ p))) a) σ
+  settle (Open p) = go (push (recordValue (at σ p)) c) (withLabel (join (a .label) (recordLabel (at σ p))) a) σ
   settle (Block t n j) =
       sealOutcome (program code ws rs) c a (labelOf y) n j (R (bodyControl t c) (bodyAccount n j a) σ)
 

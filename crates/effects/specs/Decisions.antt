@@ -20,7 +20,7 @@ use Rattle.model.specs.declared.Record.{Record}
 use Rattle.model.specs.declared.Slot.{Slot}
 use Rattle.model.specs.declared.Slot.the-variants.{Empty, Full}
 use Rattle.model.specs.declared.Ending.{Ending}
-use Rattle.store.specs.Records.{labelAt}
+use Rattle.store.specs.Records.{recordLabel}
 use Rattle.operands.specs.declared.By.{By}
 use Rattle.operands.specs.declared.By.the-variants.{None as NotRaised, Record as ByRecord}
 use Rattle.operands.specs.declared.Origin.{Origin}
@@ -75,15 +75,15 @@ roomOf a b n k =
 abbrev pub enterOf : Account → Label → ℕ → ℕ → ℕ → Decision
 enterOf a b t n k = passing (roomOf a b n k) (decided 1 (Block t n k))
 
-abbrev pub withLabel : OnLabel → Label → Account → Decision
-withLabel Raises l a = raiseOf (a .label) (a .clearance) l
-withLabel Lowers l a = lowerOf (a .label) (a .clearance) l
-withLabel (Makes h) l a = makeOf a h l
-withLabel (Blocks t n k) l a = enterOf a l t n k
+abbrev pub withLabelOf : OnLabel → Label → Account → Decision
+withLabelOf Raises l a = raiseOf (a .label) (a .clearance) l
+withLabelOf Lowers l a = lowerOf (a .label) (a .clearance) l
+withLabelOf (Makes h) l a = makeOf a h l
+withLabelOf (Blocks t n k) l a = enterOf a l t n k
 
 abbrev pub onLabel : OnLabel → Datum → Account → Decision
 onLabel f (Number n) a = faulty 22
-onLabel f (Labelled l) a = withLabel f l a
+onLabel f (Labelled l) a = withLabelOf f l a
 onLabel f (Handle h p) a = faulty 22
 
 -- ── on a handle, p its place ──
@@ -144,7 +144,7 @@ abbrev pub labelFrom : Origin → Label → Label → List ℕ → Store → Lab
 labelFrom (File i) label clearance ws σ = labelIn ws i
 labelFrom Current label clearance ws σ = label
 labelFrom Clearance label clearance ws σ = clearance
-labelFrom (OfRecord p) label clearance ws σ = labelAt (at σ p)
+labelFrom (OfRecord p) label clearance ws σ = recordLabel (at σ p)
 
 -- m being the label on top and l the one below
 abbrev pub pairedOf : Both → Label → Label → Label
@@ -154,7 +154,7 @@ pairedOf MeetOf m l = meet l m
 -- the label that a fault leaves
 abbrev pub raisedBy : Label → By → Store → Label
 raisedBy label NotRaised σ = label
-raisedBy label (ByRecord p) σ = join label (labelAt (at σ p))
+raisedBy label (ByRecord p) σ = join label (recordLabel (at σ p))
 
 -- ── a block's outcome ──
 

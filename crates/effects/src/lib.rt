@@ -21,7 +21,7 @@ ghost use lib.ListN.{length, set};
 ghost use Rattle.model.specs.State.{at};
 ghost use Rattle.model.specs.Effects.{holding};
 ghost use Rattle.store.specs.Slots.{words, slots};
-ghost use Rattle.effects.specs.Decisions.{targetOf, risesOf, raiseOf, lowerOf, makeOf, roomOf, enterOf, withLabel, onLabel, isKind, openedOf, openOf, labelledOf, rewriteOf, writeOf, withHandle, onHandle, onLabels, labelFrom, pairedOf, raisedBy, sealedOf};
+ghost use Rattle.effects.specs.Decisions.{targetOf, risesOf, raiseOf, lowerOf, makeOf, roomOf, enterOf, withLabelOf, onLabel, isKind, openedOf, openOf, labelledOf, rewriteOf, writeOf, withHandle, onHandle, onLabels, labelFrom, pairedOf, raisedBy, sealedOf};
 
 // ---- the checks
 
@@ -120,7 +120,7 @@ fn enter(a: Account, b: Label, t: usize, n: usize, k: usize) -> Decision
 
 fn with_label(f: OnLabel, l: Label, a: Account) -> Decision
     requires { ⌜ a .next ≤ a .limit ⌝ }
-    ensures { λ r. ⌜ r ≡ withLabel f l a ⌝ }
+    ensures { λ r. ⌜ r ≡ withLabelOf f l a ⌝ }
 {
     let label = a.label;
     let clearance = a.clearance;

@@ -10,9 +10,6 @@ use lib.Arith.{digits-mod}
 use lib.Pow.{shr-shr, pow-mono}
 use Rattle.formulas.specs.Bits.{nonzero, digit, bit, fromBits}
 
-two-pos : zero < 2
-two-pos = zero-lt-suc 1
-
 -- ---- one digit
 
 nonzero-min : (a b : ℕ) → nonzero (min a b) ≡ (nonzero a && nonzero b)

@@ -70,7 +70,7 @@ bound (k ∷ ks) t cs a g h =
     f : ℕ → Bool
     f d = not (among d k)
 
-pub at-most : (n : ℕ) → T (chained n) → (cs : List ℕ) → T (canonical n cs) → length cs ≤ length (chains n)
+at-most : (n : ℕ) → T (chained n) → (cs : List ℕ) → T (canonical n cs) → length cs ≤ length (chains n)
 at-most n t cs u =
     bound (chains n) (T-left (allLinked (chains n)) (allBelow (2 ^ n) (λ c. amongAny c (chains n))) t) cs (canon-asc n cs u) (canon-apart n cs u)
     (λ c m. allBelow-at (2 ^ n) (λ d. amongAny d (chains n)) c (T-right (allLinked (chains n)) (allBelow (2 ^ n) (λ d. amongAny d (chains n))) t) (canon-lt n cs u c m))

@@ -53,7 +53,7 @@ pub holds-at : (c x p : ℕ) → T (bit c p) → T (bit x p) → T (holds c x)
 unfolding holds
 holds-at c x p hc hx = bit-nonzero (bitAnd c x) p (T-eq (sym (bit-and c x p)) (T-and (bit c p) (bit x p) hc hx))
 
-pub holds-or : (c d x : ℕ) → holds (bitOr c d) x ≡ (holds c x || holds d x)
+holds-or : (c d x : ℕ) → holds (bitOr c d) x ≡ (holds c x || holds d x)
 holds-or c d x =
     T-same (holds (bitOr c d) x) (holds c x || holds d x)
     (λ h. let w = shares (bitOr c d) x h in
@@ -81,7 +81,7 @@ table-ext n t cs h f = ext (2 ^ n) (table n cs) t (table-lt n cs) h (λ x hx. bi
 
 -- ---- AND
 
-pub satisfied-conjunction : (cs ds : List ℕ) (x : ℕ) → satisfied (conjunction cs ds) x ≡ (satisfied cs x && satisfied ds x)
+satisfied-conjunction : (cs ds : List ℕ) (x : ℕ) → satisfied (conjunction cs ds) x ≡ (satisfied cs x && satisfied ds x)
 satisfied-conjunction [] ds x = refl
 satisfied-conjunction (c ∷ cs) ds x =
     ap (λ (b : Bool). holds c x && b) (satisfied-conjunction cs ds x) ∙ sym (and-assoc (holds c x) (satisfied cs x) (satisfied ds x))
@@ -99,7 +99,7 @@ united c [] x = sym (or-true (holds c x))
 united c (d ∷ ds) x =
     ap₂ (λ (a b : Bool). a && b) (holds-or c d x) (united c ds x) ∙ sym (or-and-distrib-left (holds c x) (holds d x) (satisfied ds x))
 
-pub satisfied-disjunction : (cs ds : List ℕ) (x : ℕ) → satisfied (disjunction cs ds) x ≡ (satisfied cs x || satisfied ds x)
+satisfied-disjunction : (cs ds : List ℕ) (x : ℕ) → satisfied (disjunction cs ds) x ≡ (satisfied cs x || satisfied ds x)
 satisfied-disjunction [] ds x = refl
 satisfied-disjunction (c ∷ cs) ds x =
     satisfied-conjunction (map (bitOr c) ds) (disjunction cs ds) x

@@ -10,24 +10,24 @@ use lib.Seq.{take-suc-set, length-take-le, take-all}
 use Rattle.formulas.specs.Normal.{maximalFalse, consIf, selected, clauses}
 
 -- the mask c is listed
-abbrev pub lists : ℕ → ℕ → Bool
+abbrev lists : ℕ → ℕ → Bool
 lists t c = maximalFalse 6 t (63 - c)
 
 -- the clauses of t from the mask c on
 pub from : ℕ → ℕ → List ℕ
 from t c = selected (lists t) c (64 - c)
 
-pub from-start : (t : ℕ) → from t 0 ≡ clauses 6 t
+from-start : (t : ℕ) → from t 0 ≡ clauses 6 t
 unfolding from clauses
 from-start t = refl
 
-pub from-step : (t c : ℕ) (b : Bool) → c < 64 → lists t c ≡ b → from t c ≡ consIf b c (from t (c + 1))
+from-step : (t c : ℕ) (b : Bool) → c < 64 → lists t c ≡ b → from t c ≡ consIf b c (from t (c + 1))
 unfolding from
 from-step t c b h e =
     ap (selected (lists t) c) (let q : 64 - c ≡ suc (64 - (c + 1)) = omega arith in q)
     ∙ ap₂ (λ (x : Bool) (k : ℕ). consIf x c (selected (lists t) k (64 - (c + 1)))) e (sym (add-one c))
 
-pub from-end : (t c : ℕ) → 64 ≤ c → from t c ≡ []
+from-end : (t c : ℕ) → 64 ≤ c → from t c ≡ []
 unfolding from
 from-end t c h = ap (selected (lists t) c) (let q : 64 - c ≡ 0 = omega arith in q)
 

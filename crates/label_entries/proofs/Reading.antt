@@ -15,7 +15,6 @@ use Rattle.label_entries.specs.Entries.{secrecyMasks, integrityMasks, en
 use Rattle.labels.specs.declared.Label.{Label}
 use Rattle.label_entries.specs.declared.Entry.{Entry}
 use Rattle.label_entries.specs.declared.Entry.the-variants.{Read, Malformed}
-use Rattle.label_entries.specs.declared.Formula.{Formula}
 use Rattle.label_entries.specs.declared.Formula.the-variants.{Table, Malformed as MalformedFormula}
 
 pub record WellFormed (xs : List ℕ) : Type 0 where
@@ -46,7 +45,7 @@ module _ (a b c d e f : Bool) where
       (T-left a b p2, T-right a b p2, T-right (a && b) c p3, T-right (a && b && c) d p4, T-right (a && b && c && d) e p5, T-right (a && b && c && d && e) f p)
 
 module _ (xs : List ℕ) where
-  pub well-formed : T (wellFormed xs) → WellFormed xs
+  well-formed : T (wellFormed xs) → WellFormed xs
   unfolding wellFormed
   well-formed t =
       let w = each-of-six (leb 2 (length xs)) (leb (getD xs 0 0) 20) (leb (getD xs 1 0) 20) (leb (entryLength xs) (length xs))
@@ -60,7 +59,7 @@ module _ (xs : List ℕ) where
         integrity = w .5;
       }
 
-  pub passes : WellFormed xs → T (wellFormed xs)
+  passes : WellFormed xs → T (wellFormed xs)
   unfolding wellFormed
   passes w =
       all-six (leb 2 (length xs)) (leb (getD xs 0 0) 20) (leb (getD xs 1 0) 20) (leb (entryLength xs) (length xs))
@@ -68,7 +67,7 @@ module _ (xs : List ℕ) where
       (le→leb 2 (length xs) (w .counts)) (le→leb (getD xs 0 0) 20 (w .few-secrecy)) (le→leb (getD xs 1 0) 20 (w .few-integrity))
       (le→leb (entryLength xs) (length xs) (w .whole)) (w .secrecy) (w .integrity)
 
-  abbrev pub found : Entry
+  abbrev found : Entry
   found = Read (label (secrecyMasks xs) (integrityMasks xs)) (entryLength xs)
 
   pub accepted : WellFormed xs → found ≡ readEntry xs

@@ -57,10 +57,6 @@ module _ (l : Label) (arises : Arising l) where
         integrity = subst (λ (cs : List ℕ). T (canonical 6 cs)) (sym (integrity-laid S I rest)) (normal 6 (l .integrity) (arises .1) .form);
       }
 
-  -- a buffer of 42 bytes has room for any entry
-  pub entry-short : length (entryBytes l) ≤ 42
-  entry-short = omega (arith, length-append S I, at-most-20-clauses (l .secrecy) (arises .0), at-most-20-clauses (l .integrity) (arises .1))
-
   -- whatever lies behind the entry
   pub read-written : (rest : List ℕ) → readEntry (entryBytes l ++ rest) ≡ Read l (length (entryBytes l))
   read-written rest =

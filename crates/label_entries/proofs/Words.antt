@@ -64,7 +64,7 @@ module _ (n m p t : ℕ) (e : t ≡ table n (m % 2 ^ p ∷ [])) where
   clause-without b = e ∙ ap (λ (x : ℕ). table n (x ∷ [])) (low-without m p b ∙ ap (λ (k : ℕ). m % 2 ^ k) (sym (add-one p)))
 
 -- the tables of the clauses with one member of six, as the source has them
-abbrev pub singles : List ℕ
+abbrev singles : List ℕ
 singles =
     0xAAAA_AAAA_AAAA_AAAA ∷ 0xCCCC_CCCC_CCCC_CCCC ∷ 0xF0F0_F0F0_F0F0_F0F0 ∷ 0xFF00_FF00_FF00_FF00
     ∷ 0xFFFF_0000_FFFF_0000 ∷ 0xFFFF_FFFF_0000_0000 ∷ []

@@ -17,30 +17,30 @@ allHold [] = true
 allHold (c ∷ cs) = c .holds && allHold cs
 
 -- the list of clauses has this table
-abbrev pub tableIs : List ℕ → ℕ → Bool
+abbrev tableIs : List ℕ → ℕ → Bool
 tableIs cs t = eqb (table 6 cs) t
 
 -- a flows to b, and not back
-abbrev pub oneWay : Label → Label → Bool
+abbrev oneWay : Label → Label → Bool
 oneWay a b = flows a b && not (flows b a)
 
-abbrev pub sameLabel : Label → Label → Bool
+abbrev sameLabel : Label → Label → Bool
 sameLabel a b = eqb (a .secrecy) (b .secrecy) && eqb (a .integrity) (b .integrity)
 
 -- formulas, as lists of clauses
-abbrev pub player : List ℕ
+abbrev player : List ℕ
 player = 0x01 ∷ []
 
-abbrev pub dealer : List ℕ
+abbrev dealer : List ℕ
 dealer = 0x02 ∷ []
 
-abbrev pub bench : List ℕ
+abbrev bench : List ℕ
 bench = 0x04 ∷ []
 
-abbrev pub playerOrDealer : List ℕ
+abbrev playerOrDealer : List ℕ
 playerOrDealer = 0x03 ∷ []
 
-abbrev pub playerAndDealer : List ℕ
+abbrev playerAndDealer : List ℕ
 playerAndDealer = 0x01 ∷ 0x02 ∷ []
 
 abbrev pub labelCases : List Case

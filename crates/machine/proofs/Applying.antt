@@ -20,7 +20,7 @@ use Rattle.model.specs.State.{Control, Store, Outcome, at, number, value, push,
 use Rattle.model.specs.declared.Account.{Account}
 use Rattle.model.specs.Effects.{go, fail, failTo, holding, outcome, bodyAccount, sealOutcome}
 use Rattle.model.specs.Running.{runs}
-use Rattle.store.specs.Records.{labelAt, valueAt, rewritten}
+use Rattle.store.specs.Records.{recordLabel, recordValue, rewritten}
 use Rattle.operands.specs.Program.{program}
 use Rattle.operands.specs.Tasks.{labelOf}
 use Rattle.operands.specs.declared.By.{By}
@@ -32,7 +32,7 @@ use Rattle.effects.specs.Decisions.{labelFrom, pairedOf, raisedBy, sealedOf}
 use Rattle.effects.proofs.Taking.{settle, Cleared}
 use Rattle.machine.specs.declared.State.{State}
 use Rattle.model.specs.declared.Finished.{Finished}
-use Rattle.machine.specs.State.{no-frame, Ok, Live, control, account, Ran, pushed, raised, ended, caught, handled}
+use Rattle.machine.specs.State.{no-frame, Ok, Live, control, account, Ran, pushed, labelRaised, ended, caught, handled}
 use Rattle.machine.specs.Steps.{Finishes, begun}
 use Rattle.machine.proofs.Stack.{drop-one, drop-none, drop-cut}
 use Rattle.machine.proofs.Methods.{relabelled, lowered, taken, jumped, with-locals, framed, unframed, ok-pushed, control-pushed, ok-kept, ok-framed, control-framed, next-live, Room, roomy}
@@ -129,8 +129,8 @@ module _ (z : Decided) where
   pub does-end : (d : Datum) → d ≡ y → Settled (ended (Result d) s) σ End
   does-end d e = record { ok = o; eq = rw e }
 
-  pub does-raise : (l : Label) → l ≡ labelOf y → Settled (raised l s) σ Raise
-  does-raise l e = rw (← e) (record { ok = o; eq = next-live (raised l s) live σ })
+  pub does-raise : (l : Label) → l ≡ labelOf y → Settled (labelRaised l s) σ Raise
+  does-raise l e = rw (← e) (record { ok = o; eq = next-live (labelRaised l s) live σ })
 
   pub does-lower : (l : Label) → l ≡ labelOf y → Settled (lowered l s) σ Lower
   does-lower l e = rw (← e) (record { ok = o; eq = next-live (lowered l s) live σ })
@@ -165,10 +165,10 @@ module _ (z : Decided) where
     pub does-get : (i : ℕ) (v : Datum) → v ≡ getD (s .locals) i (number 0) .datum → Settled (pushed (value v) s) σ (Get i)
     does-get i v e = rw (← e) (gave v)
 
-    pub does-open : (p : ℕ) (l : Label) (v : Datum) → l ≡ labelAt (at σ p) → v ≡ valueAt (at σ p) → Settled (pushed (value v) (raised l s)) σ (Open p)
+    pub does-open : (p : ℕ) (l : Label) (v : Datum) → l ≡ recordLabel (at σ p) → v ≡ recordValue (at σ p) → Settled (pushed (value v) (labelRaised l s)) σ (Open p)
     does-open p l v el ev =
         rw (← el, ← ev)
-        (record { ok = ok-gave v; eq = next-live (pushed (value v) (raised l s)) live σ ∙ ap (λ (c : Control). go c (withLabel (join (s .label) l) (account s)) σ) (control-gave v) })
+        (record { ok = ok-gave v; eq = next-live (pushed (value v) (labelRaised l s)) live σ ∙ ap (λ (c : Control). go c (withLabel (join (s .label) l) (account s)) σ) (control-gave v) })
 
   pub does-make : (h : Kind) (l : Label) (τ : Store) → Room s 1 0 0 1 → l ≡ labelOf y → τ ≡ set σ (s .next) (holding h l (Holds x))
       → Settled (pushed (value (Handle h (s .next))) (taken 1 s)) τ (Make h)
@@ -202,7 +202,7 @@ module _ (z : Decided) where
   -- ── BLOCK ──
 
   -- after a body: its steps and places are paid, and the outcome's handle is pushed
-  abbrev pub left : ℕ → ℕ → State
+  abbrev left : ℕ → ℕ → State
   left n j = record { stack = set (s .stack) (s .top - 1) (value (Handle Sealed (s .next))); top = s .top - 1; locals = s .locals; frames = s .frames; newest = s .newest; label = s .label; clearance = s .clearance; steps = s .steps - n; next = s .next + 1 + j; limit = s .limit; depth = s .depth; pc = s .pc; progress = s .progress }
 
   -- a body that has run, with the records τ, and whose outcome is sealed, with the records υ

@@ -36,7 +36,7 @@ taken n s = record { stack = s .stack; top = s .top; locals = s .locals; frames 
 abbrev pub jumped : ℕ → State → State
 jumped t s = record { stack = s .stack; top = s .top; locals = s .locals; frames = s .frames; newest = s .newest; label = s .label; clearance = s .clearance; steps = s .steps; next = s .next; limit = s .limit; depth = s .depth; pc = t; progress = s .progress }
 
-abbrev pub kept : ℕ → Value → State → State
+abbrev kept : ℕ → Value → State → State
 kept i v s = record { stack = s .stack; top = s .top; locals = set (s .locals) i v; frames = s .frames; newest = s .newest; label = s .label; clearance = s .clearance; steps = s .steps; next = s .next; limit = s .limit; depth = s .depth; pc = s .pc; progress = s .progress }
 
 abbrev pub with-locals : List Value → State → State
@@ -111,7 +111,7 @@ read-at l i n e = test (ltb i (suc n)) refl where
   test false t = let h : length l ≤ i = (let k = ltb-false i (suc n) t in omega arith) in ap (λ (v : Value). v .datum) (sym (List·getD-eq-default l (number 0) h))
 
 -- a value read at the least of its place and 31, where it is there
-pub operand-there : (s : State) (i j : ℕ) → Ok s → i ≡ min (s .top + j) 31 → j + 1 ≤ length (control s .stack) → getD (s .stack) i (number 0) .datum ≡ getD (control s .stack) j (number 0) .datum
+operand-there : (s : State) (i j : ℕ) → Ok s → i ≡ min (s .top + j) 31 → j + 1 ≤ length (control s .stack) → getD (s .stack) i (number 0) .datum ≡ getD (control s .stack) j (number 0) .datum
 operand-there s i j o e h =
     let n : i ≡ s .top + j = (let z = o .stack .size in let w = length-drop (s .top) (s .stack) in omega (arith, e, h, z, w)) in
     ap (λ (m : ℕ). getD (s .stack) m (number 0) .datum) n ∙ ap (λ (v : Value). v .datum) (sym (getD-drop (s .top) (s .stack) j (number 0)))

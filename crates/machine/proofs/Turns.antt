@@ -93,14 +93,14 @@ pub taken-over : (code ws rs : List ℕ) (s : State) (σ τ : Store) (f g : ℕ)
 taken-over code ws rs s σ τ f g e h r n w q ran =
     record { ok = ran .ok; eq = ran .eq ∙ ap (settle code ws rs (runs (program code ws rs)) (control s) (account s) σ (getD (s .stack) f (number 0) .datum) (getD (s .stack) g (number 0) .datum)) (sym q) ∙ w .does }
 
-pub runs-step : (P : Program) (c : Control) (a : Account) (σ : Store) → 0 < a .steps → runs P c a σ ≡ resume (runs P) (step P (runs P) c (withSteps (a .steps - 1) a) σ)
+runs-step : (P : Program) (c : Control) (a : Account) (σ : Store) → 0 < a .steps → runs P c a σ ≡ resume (runs P) (step P (runs P) c (withSteps (a .steps - 1) a) σ)
 runs-step P c a σ h = runs-next P c a σ (a .steps - 1) (omega arith)
 
 next-account : (e : Status) (c : Control) (a : Account) (σ : Store) → accountOf (nextOn e c a σ) ≡ a
 next-account Running c a σ = refl
 next-account (Ended e) c a σ = refl
 
-pub steps-of : (r : State) (τ : Store) (x : Next) → nextOf r τ ≡ x → r .steps ≡ accountOf x .steps
+steps-of : (r : State) (τ : Store) (x : Next) → nextOf r τ ≡ x → r .steps ≡ accountOf x .steps
 steps-of r τ x e = ap (λ (a : Account). a .steps) (sym (next-account (r .progress .status) (control r) (account r) τ)) ∙ ap (λ (y : Next). accountOf y .steps) e
 
 -- ── one turn after the other ──
@@ -133,7 +133,7 @@ module _ (code ws rs : List ℕ) where
   turns-go n c a σ h = rw (lt-ltb 0 (a .steps) h)
 
   -- one turn is the definition's step
-  pub turns-one : (c : Control) (a : Account) (σ : Store) → 0 < a .steps
+  turns-one : (c : Control) (a : Account) (σ : Store) → 0 < a .steps
       → turns code ws rs 1 (go c a σ) ≡ step (program code ws rs) (runs (program code ws rs)) c (withSteps (a .steps - 1) a) σ
   turns-one c a σ h = turns-go 0 c a σ h
 

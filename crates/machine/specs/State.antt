@@ -1,14 +1,11 @@
 -- What a run state of the code stands for, and what its methods make of it.
-use mathlib.Core.Bool.{Bool, true, false, cond}
+use mathlib.Core.Bool.{Bool, true, false}
 use mathlib.Core.Path.{_≡_}
 use mathlib.Core.List.{List}
 use Prim.Native.Nat.{ℕ, _+_, _-_, _≤_, min}
-use lib.Dec.{ltb}
 use lib.ListN.{length, getD, set, drop}
 use Rattle.labels.specs.declared.Label.{Label}
 use Rattle.labels.specs.Order.{join}
-use Rattle.model.specs.declared.Datum.{Datum}
-use Rattle.model.specs.declared.Datum.the-variants.{Number}
 use Rattle.model.specs.declared.Value.{Value}
 use Rattle.model.specs.declared.Frame.{Frame}
 use Rattle.model.specs.declared.Ending.{Ending}
@@ -91,8 +88,8 @@ popped k s = record { stack = s .stack; top = s .top + k; locals = s .locals; fr
 abbrev pub pushed : Value → State → State
 pushed v s = record { stack = set (s .stack) (s .top - 1) v; top = s .top - 1; locals = s .locals; frames = s .frames; newest = s .newest; label = s .label; clearance = s .clearance; steps = s .steps; next = s .next; limit = s .limit; depth = s .depth; pc = s .pc; progress = s .progress }
 
-abbrev pub raised : Label → State → State
-raised l s = record { stack = s .stack; top = s .top; locals = s .locals; frames = s .frames; newest = s .newest; label = join (s .label) l; clearance = s .clearance; steps = s .steps; next = s .next; limit = s .limit; depth = s .depth; pc = s .pc; progress = s .progress }
+abbrev pub labelRaised : Label → State → State
+labelRaised l s = record { stack = s .stack; top = s .top; locals = s .locals; frames = s .frames; newest = s .newest; label = join (s .label) l; clearance = s .clearance; steps = s .steps; next = s .next; limit = s .limit; depth = s .depth; pc = s .pc; progress = s .progress }
 
 abbrev pub charged : ℕ → State → State
 charged n s = record { stack = s .stack; top = s .top; locals = s .locals; frames = s .frames; newest = s .newest; label = s .label; clearance = s .clearance; steps = s .steps - n; next = s .next; limit = s .limit; depth = s .depth; pc = s .pc; progress = s .progress }

@@ -11,13 +11,13 @@ use model::Value;
 use operands::Effect;
 use operands::Task;
 ghost use mathlib.Core.Path.{_≡_};
-ghost use Prim.Native.Nat.{_+_, _-_, _*_, _^_, _≤_, _<_, min};
+ghost use Prim.Native.Nat.{_+_, _≤_, _<_};
 ghost use lib.ListN.{length};
 ghost use Rattle.model.specs.Effects.{bodyAccount};
 ghost use Rattle.model.specs.Running.{runs, startControl, startAccount};
 ghost use Rattle.operands.specs.Program.{program, count};
-ghost use Rattle.store.specs.Slots.{words, slots};
-ghost use Rattle.machine.specs.State.{Ok, Ran, account, nextOf, endingOf, isLive, popped, pushed, raised, charged, ended, handled};
+ghost use Rattle.store.specs.Slots.{slots};
+ghost use Rattle.machine.specs.State.{Ok, Ran, account, nextOf, endingOf, isLive, popped, pushed, labelRaised, charged, ended, handled};
 ghost use Rattle.machine.specs.Steps.{Sizes, Finishes, begun, fresh};
 ghost use Rattle.machine.specs.Turns.{readyOf, turns};
 
@@ -89,7 +89,7 @@ impl State {
 
     // Joins a label to the current one.
     pub fn raise(mut self, l: Label) -> State
-        ensures { λ r. ⌜ r ≡ raised l self ⌝ }
+        ensures { λ r. ⌜ r ≡ labelRaised l self ⌝ }
     {
         let label = self.label;
         let raised = labels::join(label, l);

@@ -1,5 +1,5 @@
 -- A run depends on no more of its fuel than its steps: `run P f` is `runs P` for every f at or above the steps left. Hence
--- the three laws of `runs` that the code is proved by, which don't speak of fuel.
+-- the two laws of `runs` that the code is proved by, which don't speak of fuel.
 use mathlib.Core.Bool.{cond}
 use mathlib.Core.Path.{_≡_, refl, sym, ap, _∙_}
 use Prim.Native.Nat.{ℕ, zero, suc, _+_, _≤_, _<_}
@@ -12,7 +12,6 @@ use Rattle.model.specs.declared.Account.{Account}
 use Rattle.model.specs.Operands.{Request, none, ends, throws, raises, lowers, labels, opens, makes, writes, blocks, Plan, faults, asks, plan}
 use Rattle.model.specs.Effects.{Next, go, stop, fail, bodyControl, bodyAccount, sealOutcome, act}
 use Rattle.model.specs.Running.{perform, step, resume, pay, run, runs}
-use Rattle.model.specs.declared.Ending.{Ending}
 use Rattle.model.specs.declared.Ending.the-variants.{Spent}
 use Rattle.model.proofs.Tests.{cond-two}
 use Rattle.model.proofs.Effects.{accountOf, Effects, step-of}
@@ -37,7 +36,7 @@ module _ (P : Program) where
   step-spends R c a σ = step-of (Spends a) P R c a σ (spends-effects R a σ)
 
   -- runners that agree on runs of at most n steps
-  abbrev pub Agree : ℕ → Runner → Runner → Type 0
+  abbrev Agree : ℕ → Runner → Runner → Type 0
   Agree n R Q = (c : Control) (a : Account) (σ : Store) → a .steps ≤ n → R c a σ ≡ Q c a σ
 
   act-agree : (R Q : Runner) (c r : Control) (a : Account) (σ : Store) → Agree (a .steps) R Q → (q : Request) → act P R c r a σ q ≡ act P Q c r a σ q
@@ -70,7 +69,7 @@ module _ (P : Program) where
   perform-agree R Q c a σ h (asks r q) = act-agree R Q c r a σ h q
 
   -- an instruction runs no body of more steps than it has
-  pub step-agree : (R Q : Runner) (c : Control) (a : Account) (σ : Store) → Agree (a .steps) R Q → step P R c a σ ≡ step P Q c a σ
+  step-agree : (R Q : Runner) (c : Control) (a : Account) (σ : Store) → Agree (a .steps) R Q → step P R c a σ ≡ step P Q c a σ
   unfolding step
   step-agree R Q c a σ h =
       perform-agree R Q (jump (P .after (c .pc)) c) a σ h (plan P a (jump (P .after (c .pc)) c) (P .fetch (c .pc)))
@@ -125,13 +124,3 @@ module _ (P : Program) where
   runs-next c a σ n e =
       ap (λ (i : ℕ). run P i c a σ) e ∙ ap (λ (i : ℕ). pay i a σ (λ b. resume (run P n) (step P (run P n) c b σ))) e
       ∙ next-agree (run P n) (runs P) c (withSteps n a) σ (λ d b τ le. enough-fuel n d b τ le)
-
--- after an instruction: on with the run, or its end
-pub resume-go : (R : Runner) (c : Control) (a : Account) (σ : Store) → resume R (go c a σ) ≡ R c a σ
-unfolding resume
-resume-go R c a σ = refl
-
-pub resume-stop : (R : Runner) (e : Ending) (a : Account) (σ : Store)
-    → resume R (stop e a σ) ≡ record { ending = e; account = a; store = σ }
-unfolding resume
-resume-stop R e a σ = refl

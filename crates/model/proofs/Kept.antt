@@ -1,5 +1,5 @@
 -- One run: what it leaves as it was. No assumption on how it ends.
-use mathlib.Core.Bool.{Bool, true, false, cond, true≢false}
+use mathlib.Core.Bool.{Bool, true, false, true≢false}
 use mathlib.Core.Path.{_≡_, refl, sym, ap, _∙_}
 use Prim.Native.Nat.{ℕ, _+_, _-_, _≤_, _<_}
 use native.Mathlib.Omega.{arith}
@@ -34,7 +34,7 @@ shell Empty = Empty
 shell (Full x) = holding (x .kind) (x .label) (Fault 0 0)
 
 -- a place that the run may still fill
-abbrev pub Allotted : Account → ℕ → Type 0
+abbrev Allotted : Account → ℕ → Type 0
 Allotted a p = (a .next ≤ p) × (p < a .limit)
 
 -- the store has these places, and they are empty

@@ -64,7 +64,7 @@ module _ (N : ℕ → Type 0) where
   Handlers (f ∷ fs) = N (f .handler) × Handlers fs
 
   -- a request that doesn't end the run goes on at pc; a body at its target
-  abbrev pub GoesOn : ℕ → Request → Type 0
+  abbrev GoesOn : ℕ → Request → Type 0
   GoesOn pc none = N pc
   GoesOn pc (ends d) = Unit {0}
   GoesOn pc (throws n) = Unit {0}

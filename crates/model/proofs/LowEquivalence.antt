@@ -88,7 +88,7 @@ pub shell-full : (h : Kind) (l : Label) (x : Contents) → shell (holding h l x)
 unfolding shell
 shell-full h l x e = let z : _≡_ {A = ℕ} 0 1 = cc in omega arith
 
-pub shell-alike : (h : Kind) (l : Label) (x y : Contents) → shell (holding h l x) ≡ shell (holding h l y)
+shell-alike : (h : Kind) (l : Label) (x y : Contents) → shell (holding h l x) ≡ shell (holding h l y)
 unfolding shell
 shell-alike h l x y = refl
 

@@ -23,7 +23,7 @@ use Rattle.model.proofs.Landing.{Lands, Handlers, PlanLands, NextLands,
 -- ── the statement ──
 
 -- the script's part with its pc behind the instruction, and the plan of that instruction
-abbrev pub behind : Program → Control → Control
+abbrev behind : Program → Control → Control
 behind P c = jump (P .after (c .pc)) c
 
 abbrev pub nextPlan : Program → Control → Account → Plan
@@ -71,13 +71,13 @@ holds-in σ (writes p d) i = full σ p (i .0)
 holds-in σ (blocks b t n k) i = tt
 
 -- every label is seen: the two-run theorem of a run and itself
-abbrev pub all : Label → Bool
-all l = true
+abbrev pub anyLabel : Label → Bool
+anyLabel l = true
 
-module _ (P : Program) (D : LowSet P all) (N : ℕ → Type 0) (sound : (pc : ℕ) → N pc → Lands N (P .after pc) (P .fetch pc)) where
+module _ (P : Program) (D : LowSet P anyLabel) (N : ℕ → Type 0) (sound : (pc : ℕ) → N pc → Lands N (P .after pc) (P .fetch pc)) where
   -- of a store: no handle in it is to an empty place
-  abbrev pub Closed : Store → Type 0
-  Closed σ = LowEquivalent P all σ σ
+  abbrev Closed : Store → Type 0
+  Closed σ = LowEquivalent P anyLabel σ σ
 
   pub record Safe (c : Control) (a : Account) (σ : Store) : Type 0 where
     pub at-start : N (c .pc)
@@ -86,17 +86,17 @@ module _ (P : Program) (D : LowSet P all) (N : ℕ → Type 0) (sound : (pc : �
     pub reach : Reach (Twin σ σ) c
     pub closed : Closed σ
 
-  runs-kept : RunnerKept P all D (runs P)
+  runs-kept : RunnerKept P anyLabel D (runs P)
   unfolding runs
-  runs-kept c a σ = run-kept P all D (a .steps) c a σ
+  runs-kept c a σ = run-kept P anyLabel D (a .steps) c a σ
 
   -- what the two-run theorem says of two states of one run
   abbrev Both : Next → Next → Type 0
-  Both (go c a σ) (go d b τ) = Reach (Twin σ τ) c × LowEquivalent P all σ τ
+  Both (go c a σ) (go d b τ) = Reach (Twin σ τ) c × LowEquivalent P anyLabel σ τ
   Both (go c a σ) (stop e b τ) = Unit {0}
   Both (stop e a σ) y = Unit {0}
 
-  both : (x y : Next) → LowNext P all x y → Both x y
+  both : (x y : Next) → LowNext P anyLabel x y → Both x y
   both x y (goes g s) = (g, s)
   both x y (stops o s) = tt
   both x y (parts u v s) = absurd (true≢false u)
@@ -109,7 +109,7 @@ module _ (P : Program) (D : LowSet P all) (N : ℕ → Type 0) (sound : (pc : �
       record {
         at-start = lands .0;
         handlers = lands .1;
-        fresh = subst (λ (x : Next). Fresh (accountOf x) (storeOf x)) e (step-kept P all D (runs P) runs-kept c a σ (s .fresh) .fresh);
+        fresh = subst (λ (x : Next). Fresh (accountOf x) (storeOf x)) e (step-kept P anyLabel D (runs P) runs-kept c a σ (s .fresh) .fresh);
         reach = two .0;
         closed = two .1;
       }
@@ -119,8 +119,8 @@ module _ (P : Program) (D : LowSet P all) (N : ℕ → Type 0) (sound : (pc : �
 
       two : Both (go d b τ) (go d b τ)
       two = both (go d b τ) (go d b τ)
-          (subst (λ (x : Next). LowNext P all x x) e
-          (step-two P all D (runs P) runs-kept (two-runs P all D) c a σ σ (s .fresh) (s .fresh) (s .reach) (s .closed)))
+          (subst (λ (x : Next). LowNext P anyLabel x x) e
+          (step-two P anyLabel D (runs P) runs-kept (two-runs P anyLabel D) c a σ σ (s .fresh) (s .fresh) (s .reach) (s .closed)))
 
   -- its step paid, a state is as safe
   safe-paid : (c : Control) (a : Account) (σ : Store) (n : ℕ) → Safe c a σ → Safe c (withSteps n a) σ

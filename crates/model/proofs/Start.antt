@@ -34,7 +34,7 @@ AlikeInputs Low (x ∷ xs) (y ∷ ys) =
 
 -- ── alike inputs give equivalent stores ──
 
-pub alike-length : (Low : Label → Bool) (xs ys : List Input) → AlikeInputs Low xs ys → length xs ≡ length ys
+alike-length : (Low : Label → Bool) (xs ys : List Input) → AlikeInputs Low xs ys → length xs ≡ length ys
 alike-length Low [] [] h = refl
 alike-length Low [] (y ∷ ys) h = absurd h
 alike-length Low (x ∷ xs) [] h = absurd h
@@ -104,7 +104,7 @@ no-handles P Low σ τ [] m p = subst (λ (x : Slot). SharedSlot σ τ (shown Lo
 no-handles P Low σ τ (x ∷ xs) m zero = shared-visible P Low σ τ (x .kind) (x .label) (Holds (Number (x .number))) tt
 no-handles P Low σ τ (x ∷ xs) m (suc p) = no-handles P Low σ τ xs m p
 
-pub handles-point : (T : ℕ → Type 0) (p : ℕ) (xs : List Input) → ((i : ℕ) → p ≤ i → i < p + length xs → T i) → All T (handles p xs)
+handles-point : (T : ℕ → Type 0) (p : ℕ) (xs : List Input) → ((i : ℕ) → p ≤ i → i < p + length xs → T i) → All T (handles p xs)
 unfolding handles
 handles-point T p [] f = tt
 handles-point T p (x ∷ xs) f = (f p (omega arith) (omega arith), handles-point T (suc p) xs (λ i a b. f i (omega arith) (omega arith)))

@@ -1,5 +1,5 @@
 -- What a request does: faults 23 to 28 in their order, and the effect; and the way of a fault to its handler.
-use mathlib.Core.Bool.{Bool, true, false, cond, _&&_}
+use mathlib.Core.Bool.{Bool, cond, _&&_}
 use mathlib.Core.List.{List, [], _∷_}
 use Prim.Native.Nat.{ℕ, _+_, _-_}
 use lib.Dec.{leb, ltb}
@@ -15,7 +15,6 @@ use Rattle.model.specs.declared.Datum.the-variants.{Label as Labelled, H
 use Rattle.model.specs.declared.Value.{Value}
 use Rattle.model.specs.declared.Contents.{Contents}
 use Rattle.model.specs.declared.Contents.the-variants.{Value as Holds, Fault}
-use Rattle.model.specs.declared.Record.{Record}
 use Rattle.model.specs.declared.Slot.{Slot}
 use Rattle.model.specs.declared.Slot.the-variants.{Empty, Full}
 use Rattle.model.specs.declared.Frame.{Frame}
@@ -43,7 +42,7 @@ abbrev pub fail : ℕ → ℕ → Control → Account → Store → Next
 fail code n c a σ = failTo (c .frames) code n c a σ
 
 -- what follows where a test holds, else a fault with number 0
-abbrev pub check : Bool → ℕ → Control → Account → Store → Next → Next
+abbrev check : Bool → ℕ → Control → Account → Store → Next → Next
 check t code c a σ x = cond t x (fail code 0 c a σ)
 
 -- 23 and 24 of SEAL, NEW, WRITE, BLOCK: the current label flows to the target, the target to the clearance
@@ -51,7 +50,7 @@ abbrev pub checkTarget : Program → Label → Control → Account → Store →
 checkTarget P l c a σ x = check (P .flows (a .label) l) 23 c a σ (check (P .flows l (a .clearance)) 24 c a σ x)
 
 -- 24 of RAISE, OPEN, READ: the raised label flows to the clearance
-abbrev pub checkRaise : Program → Label → Control → Account → Store → Next → Next
+abbrev checkRaise : Program → Label → Control → Account → Store → Next → Next
 checkRaise P l c a σ x = check (P .flows (P .join (a .label) l) (a .clearance)) 24 c a σ x
 
 abbrev pub raised : Program → Label → Account → Account

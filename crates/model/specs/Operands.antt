@@ -6,7 +6,7 @@ use Prim.Native.Nat.{ℕ, _+_, _-_, _^_, _%_}
 use lib.Dec.{leb, ltb, eqb}
 use lib.ListN.{length, getD}
 use Rattle.labels.specs.declared.Label.{Label}
-use Rattle.model.specs.State.{Control, Program, value, number, withStack, withFrames, push, jump, setLocal}
+use Rattle.model.specs.State.{Control, Program, number, withStack, withFrames, push, jump, setLocal}
 use Rattle.model.specs.declared.Account.{Account}
 use Rattle.model.specs.declared.Kind.{Kind}
 use Rattle.model.specs.declared.Kind.the-variants.{Sealed, Reference}
@@ -14,7 +14,6 @@ use Rattle.model.specs.declared.Datum.{Datum}
 use Rattle.model.specs.declared.Datum.the-variants.{Number, Label as Labelled, Handle}
 use Rattle.model.specs.declared.Value.{Value}
 use Rattle.model.specs.declared.Frame.{Frame}
-use Rattle.model.specs.declared.Arity.{Arity}
 use Rattle.model.specs.declared.Instr.{Instr}
 use Rattle.model.specs.declared.Instr.the-variants.{End, Push, Lab, Get, Set, Pop, Add, Sub, Less, Same, Jump, Ifz, Cur, Clr, Raise, Lower, Flows, Join, Meet, Seal, Open, Labof, New, Read, Write, Block, Try, Done, Throw, Input}
 
@@ -77,6 +76,11 @@ popNumber c k = pop c (λ d r. asNumber d (λ n. k n r))
 
 abbrev pub popLabel : Control → (Label → Control → Plan) → Plan
 popLabel c k = pop c (λ d r. asLabel d (λ l. k l r))
+
+-- how many values an instruction takes from the stack, and how many it leaves there
+pub record Arity : Type 0 where
+  pub takes : ℕ
+  pub leaves : ℕ
 
 abbrev pub arityIs : ℕ → ℕ → Arity
 arityIs t l = record { takes = t; leaves = l }

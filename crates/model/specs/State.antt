@@ -1,8 +1,8 @@
 -- Running: "a run has an operand stack of 32 values and 16 locals, up to 8 try frames, label, clearance, steps and
 -- places left". The state in three parts, by who may touch it: the script's own, the account, the store.
 use mathlib.Core.Bool.{Bool, cond}
-use mathlib.Core.List.{List, [], _∷_}
-use Prim.Native.Nat.{ℕ, _+_}
+use mathlib.Core.List.{List, _∷_}
+use Prim.Native.Nat.{ℕ}
 use lib.ListN.{getD, set}
 use Rattle.labels.specs.declared.Label.{Label}
 use Rattle.model.specs.declared.Datum.{Datum}

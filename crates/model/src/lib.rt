@@ -78,12 +78,6 @@ pub enum Instr {
     Input(usize),
 }
 
-// How many values an instruction takes from the stack, and how many it leaves there.
-pub struct Arity {
-    pub takes: usize,
-    pub leaves: usize,
-}
-
 // The account of a run: what it is charged to and checked against. Places are given out in order and not given back in a
 // run, so "places left" is limit less next: a run's allotment (its quota) is the places from next up to limit.
 pub struct Account {

@@ -17,7 +17,7 @@ use Rattle.model.proofs.Kept.{LowSet, run-kept}
 use Rattle.model.proofs.LowEquivalence.{Twin}
 use Rattle.model.proofs.Landing.{Lands}
 use Rattle.model.proofs.Start.{AlikeInputs, length-inputs, length-slots, numbers-point, start-fresh, start-equivalent}
-use Rattle.model.proofs.Reached.{Reached, Holds, nextPlan, all, Safe, reached-safe, safe-holds}
+use Rattle.model.proofs.Reached.{Reached, Holds, nextPlan, anyLabel, Safe, reached-safe, safe-holds}
 use Rattle.script_file.specs.Sections.{header, recordBytes, codeBytes, labelAt}
 use Rattle.formulas.specs.Lists.{among}
 use Rattle.code_check.specs.Sweep.{starts, instrOk, codeOk}
@@ -37,10 +37,10 @@ pub record NoTotals (bs : List ℕ) (c : Control) (σ : Store) : Type 0 where
   -- if it asks for the record at a place, there is one
   pub record-there : (a : Account) (r : Control) (q : Request) → nextPlan (fileProgram bs) c a ≡ asks r q → Holds σ q
 
-every-label : (bs : List ℕ) → LowSet (fileProgram bs) all
-every-label bs = low-set bs all (λ k l e f. refl)
+every-label : (bs : List ℕ) → LowSet (fileProgram bs) anyLabel
+every-label bs = low-set bs anyLabel (λ k l e f. refl)
 
-alike-self : (xs : List Input) → AlikeInputs all xs xs
+alike-self : (xs : List Input) → AlikeInputs anyLabel xs xs
 alike-self [] = tt
 alike-self (x ∷ xs) = (refl, refl, (λ _. refl), alike-self xs)
 
@@ -73,7 +73,7 @@ module _ (bs : List ℕ) (ok : refusal bs ≡ 0) where
         fresh = start-fresh (fileInputs bs) (labelAt bs 0) (labelAt bs 1) (header bs .steps) (header bs .records .count) (header bs .places)
             (sym (length-inputs (labelAt bs) (recordBytes bs) (header bs .records .count) 0)) (within-limits bs ok .places);
         reach = record { stack = tt; locals = numbers-point (Twin start start) 16 };
-        closed = start-equivalent (fileProgram bs) all (fileInputs bs) (fileInputs bs) (alike-self (fileInputs bs)) refl;
+        closed = start-equivalent (fileProgram bs) anyLabel (fileInputs bs) (fileInputs bs) (alike-self (fileInputs bs)) refl;
       }
 
   -- Accepted files never meet the totals.
@@ -92,7 +92,7 @@ module _ (bs : List ℕ) (ok : refusal bs ≡ 0) where
   store-places : length (fileRun bs .store) ≡ 256
   unfolding fileRun runs start startStore fileInputs
   store-places =
-      sym (run-kept (fileProgram bs) all (every-label bs) (fileAccount bs .steps) startControl (fileAccount bs) start (start-safe .fresh) .sized)
+      sym (run-kept (fileProgram bs) anyLabel (every-label bs) (fileAccount bs .steps) startControl (fileAccount bs) start (start-safe .fresh) .sized)
       ∙ simp (length-append, length-replicate, length-slots, length-inputs) (omega (arith, within-limits bs ok .records))
 
   -- "A view is as many bytes as its length field says."

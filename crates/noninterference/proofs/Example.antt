@@ -7,7 +7,7 @@ use mathlib.Core.Path.{_≡_, refl, sym, ap, _∙_}
 use Prim.Native.Nat.{ℕ}
 use native.Mathlib.Decide.{ℕ-discrete}
 use native.Mathlib.Omega.{arith}
-use lib.ListN.{length, set, replicate, length-set}
+use lib.ListN.{set, replicate, length-set}
 use lib.Seq.{getD-set-other}
 use Rattle.formulas.specs.Formula.{holds, table, implies}
 use Rattle.labels.specs.Order.{flows, join}
@@ -24,9 +24,8 @@ use Rattle.script_file.specs.Program.{fileInputs, fileProgram, fileAccount, fil
 use Rattle.view_fields.specs.Fields.{littleEndian, labelField, datumField, contentsField, endingNumber, resultField, kindByte, recordField}
 use Rattle.model.specs.State.{shown}
 use Rattle.view.specs.Layout.{slotField, recordFields, recordsShown, counts, final, viewLength, view}
-use Rattle.view.specs.Reading.{fileView, reading}
-use Rattle.noninterference.specs.Alike.{legible, inputLabel, Hidden, Alike, SameReads}
-use Rattle.noninterference.proofs.Demand3.{demand-3}
+use Rattle.view.specs.Reading.{fileView}
+use Rattle.noninterference.specs.Alike.{legible, inputLabel, Hidden, Alike}
 
 -- L 2, C 1, N 13, S 20, K 2. Labels: public; ⟨player, True⟩, which is the clearance too. One sealed record, under ⟨player, True⟩,
 -- whose number's first byte is at 23. Code: LAB 1; BLOCK 9, 5 steps, 0 places; END; and the body, from 9 on: INPUT 0; OPEN; END.
@@ -103,7 +102,3 @@ alike = record { sized = length-set template 23 7 ∙ sym (length-set template 2
         → byte (file 7) p ≡ byte (file 9) p
     test p n (yes e) = absurd (n (computed .legible-7, computed .legible-9, hidden p e))
     test p n (no e) = getD-set-other template 23 p 7 0 e ∙ sym (getD-set-other template 23 p 9 0 e)
-
--- So the public reader reads the same of both, whatever the buffers held.
-pub same-for-public : (b d : List ℕ) → length b ≡ length d → SameReads b d (reading (file 7) 0 b) (reading (file 9) 0 d)
-same-for-public b d = demand-3 (file 7) (file 9) 0 b d alike

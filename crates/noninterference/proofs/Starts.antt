@@ -116,7 +116,7 @@ lands-next l c n is (Input x) e h = h
 
 module _ (l c : ℕ) (code : List ℕ) (ok : codeOk l c code ≡ true) where
   -- a place where an instruction starts
-  abbrev pub Start : ℕ → Type 0
+  abbrev Start : ℕ → Type 0
   Start pc = among pc (starts code) ≡ true
 
   -- it passes check 7

@@ -51,11 +51,11 @@ pub kind-other : (n : ℕ) → n ≢ 0 → Reference ≡ kindOf n
 kind-other zero h = absurd (h refl)
 kind-other (suc n) h = refl
 
-pub input-in : (rs : List ℕ) (i : ℕ) → i < count rs → Handle (kindOf (byte rs (6 * i))) i ≡ inputAt rs i
+input-in : (rs : List ℕ) (i : ℕ) → i < count rs → Handle (kindOf (byte rs (6 * i))) i ≡ inputAt rs i
 unfolding inputAt
 input-in rs i h = rw (lt-ltb i (count rs) h)
 
-pub input-out : (rs : List ℕ) (i : ℕ) → count rs ≤ i → Number 0 ≡ inputAt rs i
+input-out : (rs : List ℕ) (i : ℕ) → count rs ≤ i → Number 0 ≡ inputAt rs i
 unfolding inputAt
 input-out rs i h = rw (le-ltb i (count rs) h)
 

@@ -85,13 +85,13 @@ pairOf Flowing m l = bitOf (flows l m)
 pairOf Joining m l = decided 2 (GivesPair JoinOf)
 pairOf Meeting m l = decided 2 (GivesPair MeetOf)
 
-abbrev pub withLabel : Datum → (Label → Decision) → Decision
-withLabel (Number n) k = faulty 22
-withLabel (Labelled l) k = k l
-withLabel (Handle h p) k = faulty 22
+abbrev ifLabel : Datum → (Label → Decision) → Decision
+ifLabel (Number n) k = faulty 22
+ifLabel (Labelled l) k = k l
+ifLabel (Handle h p) k = faulty 22
 
 abbrev pub labelsOf : Pair → Datum → Datum → Decision
-labelsOf f y x = withLabel y (λ m. withLabel x (λ l. pairOf f m l))
+labelsOf f y x = ifLabel y (λ m. ifLabel x (λ l. pairOf f m l))
 
 -- ── the instructions: h values are on the stack, f frames are held ──
 

@@ -7,17 +7,23 @@ use lib.Dec.{eqb·suc-zero}
 use lib.ListN.{length, getD}
 use Rattle.script_file.specs.Sections.{header, fileLabels, orNone}
 use Rattle.script_file.specs.Checks.{passes1, passes2, passes3, passes4, passes5, passes6, passes7, lowest, refusal}
-use Rattle.script_file.specs.Loading.{number, numberOf, refusals, answer, loaded, labelWords, wordsAfter}
+use Rattle.script_file.specs.Loading.{number, refusals, answer, loaded, labelWords, wordsAfter}
 use Rattle.script_file.specs.declared.Header.{Header}
 use Rattle.script_file.specs.declared.Refusal.{Refusal}
 use Rattle.script_file.specs.declared.Refusal.the-variants.{Code}
+use Rattle.script_file.specs.declared.Loaded.{Loaded}
 use Rattle.script_file.specs.declared.Loaded.the-variants.{Refused, File}
 use Rattle.script_file.proofs.Tests.{lowest-each}
 use Rattle.script_file.proofs.Limits.{Counted, counted, Placed, placed}
 
+-- the number of an answer, 0 where nothing stops the file
+abbrev numberOf : Loaded → ℕ
+numberOf (Refused r) = number r
+numberOf (File h) = 0
+
 -- The answer's number is the lowest that applies.
-pub answer-number : (bs : List ℕ) → numberOf (loaded bs) ≡ refusal bs
-unfolding numberOf number loaded refusal
+answer-number : (bs : List ℕ) → numberOf (loaded bs) ≡ refusal bs
+unfolding number loaded refusal
 answer-number bs = each (passes1 bs) (passes2 bs) (passes3 bs) (passes4 bs) (passes5 bs) (passes6 bs) (passes7 bs) where
   each : (a b c d e f g : Bool) → numberOf (answer (lowest 1 (a ∷ b ∷ c ∷ d ∷ e ∷ f ∷ g ∷ [])) (header bs)) ≡ lowest 1 (a ∷ b ∷ c ∷ d ∷ e ∷ f ∷ g ∷ [])
   each false b c d e f g = refl
@@ -30,11 +36,9 @@ answer-number bs = each (passes1 bs) (passes2 bs) (passes3 bs) (passes4 bs) (pas
   each true true true true true true true = refl
 
 pub refused-number : (bs : List ℕ) (r : Refusal) → Refused r ≡ loaded bs → number r ≡ refusal bs
-unfolding numberOf
 refused-number bs r e = ap numberOf e ∙ answer-number bs
 
 pub file-number : (bs : List ℕ) (h : Header) → File h ≡ loaded bs → refusal bs ≡ 0
-unfolding numberOf
 file-number bs h e = sym (ap numberOf e ∙ answer-number bs)
 
 pub file-header : (bs : List ℕ) (h : Header) → File h ≡ loaded bs → h ≡ header bs

@@ -23,7 +23,7 @@ use Rattle.script_file.specs.declared.Table.{Table}
 abbrev pub putLabel : ℕ → Label → List ℕ → List ℕ
 putLabel i l ws = set (set ws (2 * i) (l .secrecy)) (2 * i + 1) (l .integrity)
 
-abbrev pub putLabels : ℕ → List Label → List ℕ → List ℕ
+abbrev putLabels : ℕ → List Label → List ℕ → List ℕ
 putLabels i [] ws = ws
 putLabels i (l ∷ ls) ws = putLabels (i + 1) ls (putLabel i l ws)
 
@@ -80,7 +80,7 @@ bytes-left i ws (b ∷ bs) h = refl
 
 -- ── reading the words ──
 
-abbrev pub noLabel : Label
+abbrev noLabel : Label
 noLabel = record { secrecy = 0; integrity = 0 }
 
 tables-at : (ls : List Label) (i : ℕ) → labelIn (tables ls) i ≡ getD ls i noLabel

@@ -23,11 +23,6 @@ number Start = 5
 number Records = 6
 number Code = 7
 
--- the number of an answer, 0 where nothing stops the file
-unfoldable pub numberOf : Loaded → ℕ
-numberOf (Refused r) = number r
-numberOf (File h) = 0
-
 -- the refusals in the order of their numbers, from 1
 abbrev pub refusals : List Refusal
 refusals = Size ∷ Counts ∷ Offsets ∷ Labels ∷ Start ∷ Records ∷ Code ∷ []

@@ -2,7 +2,7 @@
 use mathlib.Core.List.{List, [], _∷_}
 use mathlib.Core.Option.{Option, none, some}
 use Prim.Native.Nat.{ℕ, zero, suc, _+_, _-_, _*_}
-use lib.ListN.{length, getD, take, drop}
+use lib.ListN.{getD, take, drop}
 use Rattle.label_entries.specs.Entries.{readEntry}
 use Rattle.labels.specs.declared.Label.{Label}
 use Rattle.label_entries.specs.declared.Entry.{Entry}
@@ -39,7 +39,7 @@ abbrev pub labelsAfter : (ℕ → Option (List Label)) → Entry → Option (Lis
 labelsAfter rest (Read l k) = consLabel l (rest k)
 labelsAfter rest Malformed = none
 
-abbrev pub noneLeft : List ℕ → Option (List Label)
+abbrev noneLeft : List ℕ → Option (List Label)
 noneLeft [] = some []
 noneLeft (b ∷ bs) = none
 

@@ -8,19 +8,19 @@ use Rattle.model.specs.declared.Slot.{Slot}
 use Rattle.model.specs.declared.Slot.the-variants.{Empty, Full}
 
 -- the label of the record; ⟨0, 0⟩ where there is none
-abbrev pub labelAt : Slot → Label
-labelAt Empty = record { secrecy = 0; integrity = 0 }
-labelAt (Full r) = r .label
+abbrev pub recordLabel : Slot → Label
+recordLabel Empty = record { secrecy = 0; integrity = 0 }
+recordLabel (Full r) = r .label
 
 -- the value of contents; the number 0 for a fault
-abbrev pub valueIn : Contents → Datum
+abbrev valueIn : Contents → Datum
 valueIn (Value d) = d
 valueIn (Fault code number) = Number 0
 
 -- the value of the record; the number 0 where there is none
-abbrev pub valueAt : Slot → Datum
-valueAt Empty = Number 0
-valueAt (Full r) = valueIn (r .contents)
+abbrev pub recordValue : Slot → Datum
+recordValue Empty = Number 0
+recordValue (Full r) = valueIn (r .contents)
 
 -- the record with another value in place of its contents; nothing where there is none
 abbrev pub rewritten : Datum → Slot → Slot

@@ -9,7 +9,7 @@ ghost use mathlib.Core.Path.{_≡_};
 ghost use lib.ListN.{length, set};
 ghost use Rattle.model.specs.State.{at};
 ghost use Rattle.store.specs.Slots.{words, kindWord, contentsIn, slotOf, slots};
-ghost use Rattle.store.specs.Records.{labelAt, valueAt, rewritten};
+ghost use Rattle.store.specs.Records.{recordLabel, recordValue, rewritten};
 
 // How many places there are, and how many words each has: kind, label (two), and contents (three).
 pub const PLACES: usize = 256;
@@ -47,7 +47,7 @@ pub fn load(store: &[u64], p: usize) -> Slot
 // The label of the record at a place; ⟨0, 0⟩ where there is none.
 pub fn label_of(store: &[u64], p: usize) -> Label
     requires { ⌜ length (now store) ≡ words ⌝ }
-    ensures { λ r. ⌜ r ≡ labelAt (at (slots (now (store .entry))) p) ⌝ }
+    ensures { λ r. ⌜ r ≡ recordLabel (at (slots (now (store .entry))) p) ⌝ }
 {
     match load(store, p) {
         Slot::Empty => Label {
@@ -61,7 +61,7 @@ pub fn label_of(store: &[u64], p: usize) -> Label
 // The value of the record at a place; the number 0 where there is none.
 pub fn value_of(store: &[u64], p: usize) -> Datum
     requires { ⌜ length (now store) ≡ words ⌝ }
-    ensures { λ r. ⌜ r ≡ valueAt (at (slots (now (store .entry))) p) ⌝ }
+    ensures { λ r. ⌜ r ≡ recordValue (at (slots (now (store .entry))) p) ⌝ }
 {
     match load(store, p) {
         Slot::Empty => Datum::Number(0),
@@ -70,7 +70,7 @@ pub fn value_of(store: &[u64], p: usize) -> Datum
 }
 
 fn datum_of(r: Record) -> Datum
-    ensures { λ d. ⌜ d ≡ valueAt (Slot.Full r) ⌝ }
+    ensures { λ d. ⌜ d ≡ recordValue (Slot.Full r) ⌝ }
 {
     let c = r.contents;
     match c {

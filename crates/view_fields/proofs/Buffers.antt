@@ -110,7 +110,7 @@ module _ {whole left b₀ b : List ℕ} {i : ℕ} (w : Writing whole left b₀ b
   room-for-next h xs l d = room-for (length xs) (room-next h xs l d refl)
 
   -- the same of the last piece
-  pub last : {n : ℕ} → length left ≡ n → i + n ≤ length b₀ → {ys : List ℕ} → ys ≡ over left (part i b) → back i b ys ≡ over whole b₀
+  last : {n : ℕ} → length left ≡ n → i + n ≤ length b₀ → {ys : List ℕ} → ys ≡ over left (part i b) → back i b ys ≡ over whole b₀
   last e h r = ends (piece left (sym (append-nil left)) e h r) refl
 
 -- the first piece: the whole buffer is lent

@@ -59,14 +59,14 @@ unfolding kindByte
 kind-small Sealed = omega arith
 kind-small Reference = omega arith
 
-pub length-datum : (d : Datum) → length (datumField d) ≡ valueWidth
+length-datum : (d : Datum) → length (datumField d) ≡ valueWidth
 unfolding datumField
 length-datum (Number n) = length-value 1 n 0
 length-datum (Labelled l) = length-value 2 (l .secrecy) (l .integrity)
 length-datum (Handle Sealed p) = length-value 3 p 0
 length-datum (Handle Reference p) = length-value 4 p 0
 
-pub length-contents : (c : Contents) → length (contentsField c) ≡ valueWidth
+length-contents : (c : Contents) → length (contentsField c) ≡ valueWidth
 unfolding contentsField
 length-contents (Holds d) = length-datum d
 length-contents (Fault code n) = length-value 5 code n

@@ -15,7 +15,7 @@ use Rattle.model.specs.declared.Ending.the-variants.{Result, Fault as Faulted, 
 -- ── widths ──
 
 -- bytes of a table or a word; of a label; of a value: kind, a 0 byte, two words
-abbrev pub wordWidth : ℕ
+abbrev wordWidth : ℕ
 wordWidth = 8
 
 abbrev pub labelWidth : ℕ

@@ -47,7 +47,7 @@ pub const RECORD: usize = RECORD_VALUE + VALUE;
 // ---- numbers, labels and values
 
 // Writes the lowest `width` bytes of `n`, little-endian.
-pub fn write_number(n: u64, width: usize, out: &mut [u8])
+fn write_number(n: u64, width: usize, out: &mut [u8])
     requires { ⌜ width ≤ length (now out) ⌝ }
     ensures { λ _. ⌜ now (out .exit) ≡ over (littleEndian width n) (now (out .entry)) ⌝ }
 {
@@ -108,7 +108,7 @@ pub fn write_value(v: Triple, out: &mut [u8])
 }
 
 // The value that a datum is shown as.
-pub fn of_datum(d: Datum) -> Triple
+fn of_datum(d: Datum) -> Triple
     ensures { λ r. ⌜ tripleField r ≡ datumField d ⌝ }
 {
     match d {
@@ -131,7 +131,7 @@ pub fn of_datum(d: Datum) -> Triple
 }
 
 // The value that a record's contents are shown as.
-pub fn of_contents(contents: Contents) -> Triple
+fn of_contents(contents: Contents) -> Triple
     ensures { λ r. ⌜ tripleField r ≡ contentsField contents ⌝ }
 {
     match contents {
@@ -177,7 +177,7 @@ pub fn of_ending(ending: Ending) -> Triple
 
 // ---- records
 
-pub fn kind_byte(kind: Kind) -> u8
+fn kind_byte(kind: Kind) -> u8
     ensures { λ r. ⌜ r ≡ kindByte kind ⌝ }
 {
     match kind {

@@ -15,13 +15,13 @@ instrs-ok-requires c κs =
     let b : tie.Start = search in
     (omega (arith, b .pre), starts-marked (b .args .code .now) 4096 (b .pre) _ (m .mark-starts .ensures .1))
 
-returns : tie.Need-returns
+instrs-refused : tie.Need-returns
 unfolding codeOk
-returns c = let k : tie.After-instrs-ok = search in rw (sym (k .instrs-ok .ensures) ∙ not-true _ (c .if1 .taken))
+instrs-refused c = let k : tie.After-instrs-ok = search in rw (sym (k .instrs-ok .ensures) ∙ not-true _ (c .if1 .taken))
 
-returns-2 : tie.Need-returns-2
+last-decides : tie.Need-returns-2
 unfolding codeOk
-returns-2 c =
+last-decides c =
     let l : tie.After-may-be-last = search in
     let a : tie.After-byte-at = search in
     let e : tie.Else1 = search in
@@ -39,7 +39,7 @@ code-ok-spec =
     (λ c κs. search needs)
     (search needs)
     instrs-ok-requires
-    returns
+    instrs-refused
     (λ c κs. search needs)
     (λ c κs. search needs)
-    returns-2)
+    last-decides)

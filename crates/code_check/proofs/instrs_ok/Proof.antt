@@ -81,16 +81,16 @@ is-whole e = omega (arith, finds-end (search), e .if2 .left)
 
 -- ── the answers ──
 
-returns : tie.Need-returns Inv-loop μ-loop
-returns c = let p : In = search in stops p (unknown-stops (l p) (n p) (code p) (i p) (inside p) (finds-known (search) ∙ not-true _ (c .if1 .taken)))
+opcode-unknown : tie.Need-returns Inv-loop μ-loop
+opcode-unknown c = let p : In = search in stops p (unknown-stops (l p) (n p) (code p) (i p) (inside p) (finds-known (search) ∙ not-true _ (c .if1 .taken)))
 
-returns-2 : tie.Need-returns-2 Inv-loop μ-loop
-returns-2 c =
+operands-cut : tie.Need-returns-2 Inv-loop μ-loop
+operands-cut c =
     let p : In = search in
     stops p (cut-stops (l p) (n p) (code p) (i p) (inside p) (is-known (search)) (omega (arith, finds-end (search), c .if2 .taken)))
 
-returns-3 : tie.Need-returns-3 Inv-loop μ-loop
-returns-3 c =
+operands-refused : tie.Need-returns-3 Inv-loop μ-loop
+operands-refused c =
     let p : In = search in
     stops p (operands-stop (l p) (n p) (code p) (i p) (inside p) (is-known (search)) (is-whole (search)) (finds-operands (search) ∙ not-true _ (c .if3 .taken)))
 
@@ -107,9 +107,9 @@ loop-again c =
     ∙ goes-on (l p) (n p) (code p) (i p) (inside p) (is-known (search)) (is-whole (search)) (finds-operands (search) ∙ not-false _ (c .if3 .left))
     ∙ ap (λ (j : ℕ). all (instrOk (l p) (n p) (code p)) (from (code p) j)) (finds-end (search))
 
-returns-4 : tie.Need-returns-4 Inv-loop μ-loop
+all-passed : tie.Need-returns-4 Inv-loop μ-loop
 unfolding starts
-returns-4 c =
+all-passed c =
     let h : tie.At-loop Inv-loop μ-loop = search in
     let b : tie.Start Inv-loop μ-loop = search in
     let code = b .args .code .now in
@@ -124,13 +124,13 @@ instrs-ok-spec =
     (λ c. refl)
     (λ c. omega (arith, inside (search)))
     (λ c κs. search needs)
-    returns
+    opcode-unknown
     (λ c κs. search needs)
     add-after
-    returns-2
+    operands-cut
     (λ c. let p : In = search in omega (arith, inside p, begun p .pre .0))
     (λ c κs. let p : In = search in omega (arith, inside p, begun p .pre .0))
-    returns-3
+    operands-refused
     loop-less
     loop-again
-    returns-4)
+    all-passed)

@@ -7,8 +7,8 @@ use borrow.Author.Needs.{needs}
 use Rattle.code_check.proofs.is_start.Statement.{statement}
 use Rattle.code_check.proofs.is_start.Tie as tie
 
-returns-2 : tie.Need-returns-2
-returns-2 c = let b : tie.Start = search in sym (List·getD-eq-default (now (b .args .marks)) false (c .if1 .left))
+past-marks : tie.Need-returns-2
+past-marks c = let b : tie.Start = search in sym (List·getD-eq-default (now (b .args .marks)) false (c .if1 .left))
 
 pub is-start-spec : {M : Type 1} → statement M
-is-start-spec = tie.close (tie.spec (search needs) (search needs) returns-2)
+is-start-spec = tie.close (tie.spec (search needs) (search needs) past-marks)

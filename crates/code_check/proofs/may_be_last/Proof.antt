@@ -4,17 +4,17 @@ use Rattle.code_check.specs.Sweep.{mayBeLast}
 use Rattle.code_check.proofs.may_be_last.Statement.{statement}
 use Rattle.code_check.proofs.may_be_last.Tie as tie
 
-returns : tie.Need-returns
+is-end : tie.Need-returns
 unfolding mayBeLast
-returns c = rw (eq-eqb _ _ (c .if1 .taken))
+is-end c = rw (eq-eqb _ _ (c .if1 .taken))
 
-returns-2 : tie.Need-returns-2
+is-jump : tie.Need-returns-2
 unfolding mayBeLast
-returns-2 c = let one : tie.Else1 = search in rw (ne-eqb _ _ (one .if1 .left), eq-eqb _ _ (c .if2 .taken))
+is-jump c = let one : tie.Else1 = search in rw (ne-eqb _ _ (one .if1 .left), eq-eqb _ _ (c .if2 .taken))
 
-returns-3 : tie.Need-returns-3
+is-throw : tie.Need-returns-3
 unfolding mayBeLast
-returns-3 c = let one : tie.Else1 = search in rw (ne-eqb _ _ (one .if1 .left), ne-eqb _ _ (c .if2 .left))
+is-throw c = let one : tie.Else1 = search in rw (ne-eqb _ _ (one .if1 .left), ne-eqb _ _ (c .if2 .left))
 
 pub may-be-last-spec : {M : Type 1} → statement M
-may-be-last-spec = tie.close (tie.spec returns returns-2 returns-3)
+may-be-last-spec = tie.close (tie.spec is-end is-jump is-throw)

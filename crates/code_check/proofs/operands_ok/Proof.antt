@@ -43,21 +43,21 @@ module _ (b : tie.Start) where
   read : {r : Bool} (t : ℕ) → r ≡ getD marks t false → t ≡ target → r ≡ getD marks target false
   read t says e = says ∙ ap (λ (x : ℕ). getD marks x false) e
 
-returns-4 : tie.Need-returns-4
+jump-marked : tie.Need-returns-4
 unfolding instrs operandsOk
-returns-4 c = let b : tie.Start = search in marked b 10 (search) (λ is. refl) (search (read b))
+jump-marked c = let b : tie.Start = search in marked b 10 (search) (λ is. refl) (search (read b))
 
-returns-5 : tie.Need-returns-5
+ifz-marked : tie.Need-returns-5
 unfolding instrs operandsOk
-returns-5 c = let b : tie.Start = search in marked b 11 (search) (λ is. refl) (search (read b))
+ifz-marked c = let b : tie.Start = search in marked b 11 (search) (λ is. refl) (search (read b))
 
-returns-6 : tie.Need-returns-6
+block-marked : tie.Need-returns-6
 unfolding instrs operandsOk
-returns-6 c = let b : tie.Start = search in marked b 25 (search) (λ is. refl) (search (read b))
+block-marked c = let b : tie.Start = search in marked b 25 (search) (λ is. refl) (search (read b))
 
-returns-7 : tie.Need-returns-7
+try-marked : tie.Need-returns-7
 unfolding instrs operandsOk
-returns-7 c = let b : tie.Start = search in marked b 26 (search) (λ is. refl) (search (read b))
+try-marked c = let b : tie.Start = search in marked b 26 (search) (λ is. refl) (search (read b))
 
 pub operands-ok-spec : {M : Type 1} → statement M
 unfolding instrs operandsOk
@@ -79,9 +79,9 @@ operands-ok-spec =
     (λ c. arm (search) 2 (search) (λ is. rw (c .index-at .ensures)))
     (λ c. arm (search) 3 (search) (λ is. rw (c .index-at2 .ensures)))
     (λ c. arm (search) 4 (search) (λ is. rw (c .index-at3 .ensures)))
-    returns-4
-    returns-5
-    returns-6
-    returns-7
+    jump-marked
+    ifz-marked
+    block-marked
+    try-marked
     (λ c. arm (search) 29 (search) (λ is. rw (c .index-at4 .ensures)))
     (λ c. record { by = λ is m. free-else _ _ is _ _ _ (c .match .rest) }))

@@ -6,8 +6,8 @@ use borrow.Author.Needs.{needs}
 use Rattle.decode.proofs.byte_at.Statement.{statement}
 use Rattle.decode.proofs.byte_at.Tie as tie
 
-returns-2 : tie.Need-returns-2
-returns-2 c = let start : tie.Start = search in sym (List·getD-eq-default (now (start .args .s)) 0 (c .if1 .left))
+past-end : tie.Need-returns-2
+past-end c = let start : tie.Start = search in sym (List·getD-eq-default (now (start .args .s)) 0 (c .if1 .left))
 
 pub byte-at-spec : {M : Type 1} → statement M
-byte-at-spec = tie.close (tie.spec (search needs) (λ c. search needs) returns-2)
+byte-at-spec = tie.close (tie.spec (search needs) (λ c. search needs) past-end)

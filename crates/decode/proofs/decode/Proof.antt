@@ -10,13 +10,13 @@ use borrow.Author.Needs.{needs}
 use Rattle.decode.proofs.decode.Statement.{statement}
 use Rattle.decode.proofs.decode.Tie as tie
 
-returns : tie.Need-returns
+past-end : tie.Need-returns
 unfolding fetch after instrs
-returns c = let start : tie.Start = search in rw (le-ltb _ _ (c .if1 .taken), List·getD-eq-default (now (start .args .code)) 0 (c .if1 .taken))
+past-end c = let start : tie.Start = search in rw (le-ltb _ _ (c .if1 .taken), List·getD-eq-default (now (start .args .code)) 0 (c .if1 .taken))
 
-returns-2 : tie.Need-returns-2
+in-code : tie.Need-returns-2
 unfolding fetch after
-returns-2 c =
+in-code c =
     let within : tie.Else1 = search in
     let read : tie.After-instr-at = search in
     rw (lt-ltb _ _ (within .if1 .left), read .instr-at .ensures, c .size-of .ensures)
@@ -25,10 +25,10 @@ pub decode-spec : {M : Type 1} → statement M
 decode-spec =
     tie.close
     (tie.spec
-    returns
+    past-end
     (search needs)
     (search needs)
     (search needs)
     (search needs)
     (λ c. let h : c .size-of .result ≤ 20 = rw (c .size-of .ensures) (size-short _) in omega arith)
-    returns-2)
+    in-code)

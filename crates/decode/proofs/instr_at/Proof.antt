@@ -9,45 +9,45 @@ use borrow.Author.Needs.{needs}
 use Rattle.decode.proofs.instr_at.Statement.{statement}
 use Rattle.decode.proofs.instr_at.Tie as tie
 
-returns-2 : tie.Need-returns-2
+push-read : tie.Need-returns-2
 unfolding instrs
-returns-2 c = let arm : tie.At-match-keys2 = search in rw (arm .match .keys2, c .u32-at .ensures)
+push-read c = let arm : tie.At-match-keys2 = search in rw (arm .match .keys2, c .u32-at .ensures)
 
-returns-3 : tie.Need-returns-3
+lab-read : tie.Need-returns-3
 unfolding instrs
-returns-3 c = let arm : tie.At-match-keys3 = search in rw (arm .match .keys3, c .index-at .ensures)
+lab-read c = let arm : tie.At-match-keys3 = search in rw (arm .match .keys3, c .index-at .ensures)
 
-returns-4 : tie.Need-returns-4
+get-read : tie.Need-returns-4
 unfolding instrs
-returns-4 c = let arm : tie.At-match-keys4 = search in rw (arm .match .keys4, c .index-at2 .ensures)
+get-read c = let arm : tie.At-match-keys4 = search in rw (arm .match .keys4, c .index-at2 .ensures)
 
-returns-5 : tie.Need-returns-5
+set-read : tie.Need-returns-5
 unfolding instrs
-returns-5 c = let arm : tie.At-match-keys5 = search in rw (arm .match .keys5, c .index-at3 .ensures)
+set-read c = let arm : tie.At-match-keys5 = search in rw (arm .match .keys5, c .index-at3 .ensures)
 
-returns-11 : tie.Need-returns-11
+jump-read : tie.Need-returns-11
 unfolding instrs
-returns-11 c = let arm : tie.At-match-keys11 = search in rw (arm .match .keys11, c .target-at .ensures)
+jump-read c = let arm : tie.At-match-keys11 = search in rw (arm .match .keys11, c .target-at .ensures)
 
-returns-12 : tie.Need-returns-12
+ifz-read : tie.Need-returns-12
 unfolding instrs
-returns-12 c = let arm : tie.At-match-keys12 = search in rw (arm .match .keys12, c .target-at2 .ensures)
+ifz-read c = let arm : tie.At-match-keys12 = search in rw (arm .match .keys12, c .target-at2 .ensures)
 
-returns-26 : tie.Need-returns-26
+block-read : tie.Need-returns-26
 unfolding instrs
-returns-26 c = let arm : tie.At-match-keys26 = search in rw (arm .match .keys26, c .block-at .ensures)
+block-read c = let arm : tie.At-match-keys26 = search in rw (arm .match .keys26, c .block-at .ensures)
 
-returns-27 : tie.Need-returns-27
+try-read : tie.Need-returns-27
 unfolding instrs
-returns-27 c = let arm : tie.At-match-keys27 = search in rw (arm .match .keys27, c .target-at3 .ensures)
+try-read c = let arm : tie.At-match-keys27 = search in rw (arm .match .keys27, c .target-at3 .ensures)
 
-returns-30 : tie.Need-returns-30
+input-read : tie.Need-returns-30
 unfolding instrs
-returns-30 c = let arm : tie.At-match-keys30 = search in rw (arm .match .keys30, c .index-at4 .ensures)
+input-read c = let arm : tie.At-match-keys30 = search in rw (arm .match .keys30, c .index-at4 .ensures)
 
-returns-31 : tie.Need-returns-31
+unknown-read : tie.Need-returns-31
 unfolding instrs
-returns-31 c =
+unknown-read c =
     let start : tie.Start = search in
     let a = start .args in
     sym (List·getD-eq-default (instrs (now (a .code)) (a .i)) End {n = a .op} (beyond 30 (a .op) (c .match .rest)))
@@ -67,17 +67,17 @@ instr-at-spec =
     (search needs)
     (search needs)
     (λ c. rw (c .match .keys1))
-    returns-2
-    returns-3
-    returns-4
-    returns-5
+    push-read
+    lab-read
+    get-read
+    set-read
     (λ c. rw (c .match .keys6))
     (λ c. rw (c .match .keys7))
     (λ c. rw (c .match .keys8))
     (λ c. rw (c .match .keys9))
     (λ c. rw (c .match .keys10))
-    returns-11
-    returns-12
+    jump-read
+    ifz-read
     (λ c. rw (c .match .keys13))
     (λ c. rw (c .match .keys14))
     (λ c. rw (c .match .keys15))
@@ -91,9 +91,9 @@ instr-at-spec =
     (λ c. rw (c .match .keys23))
     (λ c. rw (c .match .keys24))
     (λ c. rw (c .match .keys25))
-    returns-26
-    returns-27
+    block-read
+    try-read
     (λ c. rw (c .match .keys28))
     (λ c. rw (c .match .keys29))
-    returns-30
-    returns-31)
+    input-read
+    unknown-read)

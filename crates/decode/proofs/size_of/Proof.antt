@@ -5,8 +5,8 @@ use Rattle.model.specs.Decoding.{operandBytes, size}
 use Rattle.decode.proofs.size_of.Statement.{statement}
 use Rattle.decode.proofs.size_of.Tie as tie
 
-returns-10 : tie.Need-returns-10
-returns-10 c = let start : tie.Start = search in sym (size-else (start .args .op) (c .match .rest))
+no-operands : tie.Need-returns-10
+no-operands c = let start : tie.Start = search in sym (size-else (start .args .op) (c .match .rest))
 
 pub size-of-spec : {M : Type 1} → statement M
 unfolding size operandBytes
@@ -22,4 +22,4 @@ size-of-spec =
     (λ c. rw (c .match .keys7))
     (λ c. rw (c .match .keys8))
     (λ c. rw (c .match .keys9))
-    returns-10)
+    no-operands)

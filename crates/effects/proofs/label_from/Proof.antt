@@ -3,17 +3,17 @@ use borrow.Author.Needs.{needs}
 use Rattle.effects.proofs.label_from.Statement.{statement}
 use Rattle.effects.proofs.label_from.Tie as tie
 
-returns : tie.Need-returns
-returns c = let o : tie.After-o = search in rw (o .o .given .1) (c .label-at .ensures)
+of-file : tie.Need-returns
+of-file c = let o : tie.After-o = search in rw (o .o .given .1) (c .label-at .ensures)
 
-returns-2 : tie.Need-returns-2
-returns-2 c = rw (c .enum-told .given .1)
+of-current : tie.Need-returns-2
+of-current c = rw (c .enum-told .given .1)
 
-returns-3 : tie.Need-returns-3
-returns-3 c = rw (c .enum-told2 .given .1)
+of-clearance : tie.Need-returns-3
+of-clearance c = rw (c .enum-told2 .given .1)
 
-returns-4 : tie.Need-returns-4
-returns-4 c = let o : tie.After-o2 = search in rw (o .o2 .given .1) (c .label-of .ensures)
+of-record : tie.Need-returns-4
+of-record c = let o : tie.After-o2 = search in rw (o .o2 .given .1) (c .label-of .ensures)
 
 pub label-from-spec : {M : Type 1} → statement M
 label-from-spec =
@@ -25,7 +25,7 @@ label-from-spec =
     (λ c. search needs)
     (λ c. search needs)
     (λ c κs. search needs)
-    returns
-    returns-2
-    returns-3
-    returns-4)
+    of-file
+    of-current
+    of-clearance
+    of-record)

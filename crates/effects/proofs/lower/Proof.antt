@@ -4,14 +4,14 @@ use borrow.Author.Needs.{needs}
 use Rattle.effects.proofs.lower.Statement.{statement}
 use Rattle.effects.proofs.lower.Tie as tie
 
-returns : tie.Need-returns
-returns c = let i : tie.Then1 = search in let f : tie.After-flows = search in rw (← f .flows .ensures, not-true (f .flows .result) (i .if1 .taken)) (c .faulty .ensures)
+not-above-label : tie.Need-returns
+not-above-label c = let i : tie.Then1 = search in let f : tie.After-flows = search in rw (← f .flows .ensures, not-true (f .flows .result) (i .if1 .taken)) (c .faulty .ensures)
 
-returns-2 : tie.Need-returns-2
-returns-2 c = let j : tie.Then2 = search in let g : tie.After-flows2 = search in let i : tie.Else1 = search in let f : tie.After-flows = search in rw (← f .flows .ensures, not-false (f .flows .result) (i .if1 .left), ← g .flows2 .ensures, not-true (g .flows2 .result) (j .if2 .taken)) (c .faulty2 .ensures)
+above-clearance : tie.Need-returns-2
+above-clearance c = let j : tie.Then2 = search in let g : tie.After-flows2 = search in let i : tie.Else1 = search in let f : tie.After-flows = search in rw (← f .flows .ensures, not-false (f .flows .result) (i .if1 .left), ← g .flows2 .ensures, not-true (g .flows2 .result) (j .if2 .taken)) (c .faulty2 .ensures)
 
-returns-3 : tie.Need-returns-3
-returns-3 c = let j : tie.Else2 = search in let g : tie.After-flows2 = search in let i : tie.Else1 = search in let f : tie.After-flows = search in rw (← f .flows .ensures, not-false (f .flows .result) (i .if1 .left), ← g .flows2 .ensures, not-false (g .flows2 .result) (j .if2 .left)) (c .decides .ensures)
+lowers : tie.Need-returns-3
+lowers c = let j : tie.Else2 = search in let g : tie.After-flows2 = search in let i : tie.Else1 = search in let f : tie.After-flows = search in rw (← f .flows .ensures, not-false (f .flows .result) (i .if1 .left), ← g .flows2 .ensures, not-false (g .flows2 .result) (j .if2 .left)) (c .decides .ensures)
 
 pub lower-spec : {M : Type 1} → statement M
-lower-spec = tie.close (tie.spec (λ c κs. search needs) (λ c κs. search needs) returns (λ c κs. search needs) (λ c κs. search needs) returns-2 (λ c κs. search needs) returns-3)
+lower-spec = tie.close (tie.spec (λ c κs. search needs) (λ c κs. search needs) not-above-label (λ c κs. search needs) (λ c κs. search needs) above-clearance (λ c κs. search needs) lowers)

@@ -3,14 +3,14 @@ use borrow.Author.Needs.{needs}
 use Rattle.effects.proofs.on_handle.Statement.{statement}
 use Rattle.effects.proofs.on_handle.Tie as tie
 
-returns : tie.Need-returns
-returns c = let t : tie.After-enum-told = search in rw (t .enum-told .given .1) (c .faulty .ensures)
+given-number : tie.Need-returns
+given-number c = let t : tie.After-enum-told = search in rw (t .enum-told .given .1) (c .faulty .ensures)
 
-returns-2 : tie.Need-returns-2
-returns-2 c = let t : tie.After-enum-told2 = search in rw (t .enum-told2 .given .1) (c .faulty2 .ensures)
+given-label : tie.Need-returns-2
+given-label c = let t : tie.After-enum-told2 = search in rw (t .enum-told2 .given .1) (c .faulty2 .ensures)
 
-returns-3 : tie.Need-returns-3
-returns-3 c = let y : tie.After-y = search in rw (y .y .given .1) (c .with-handle .ensures)
+given-handle : tie.Need-returns-3
+given-handle c = let y : tie.After-y = search in rw (y .y .given .1) (c .with-handle .ensures)
 
 pub on-handle-spec : {M : Type 1} → statement M
 on-handle-spec =
@@ -22,6 +22,6 @@ on-handle-spec =
     (λ c κs. search needs)
     (λ c. search needs)
     (λ c κs. search needs)
-    returns
-    returns-2
-    returns-3)
+    given-number
+    given-label
+    given-handle)

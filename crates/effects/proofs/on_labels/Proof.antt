@@ -3,14 +3,14 @@ use borrow.Author.Needs.{needs}
 use Rattle.effects.proofs.on_labels.Statement.{statement}
 use Rattle.effects.proofs.on_labels.Tie as tie
 
-returns : tie.Need-returns
-returns c = let t : tie.After-t = search in rw (t .t .given .1) (c .two-labels .ensures)
+for-pair : tie.Need-returns
+for-pair c = let t : tie.After-t = search in rw (t .t .given .1) (c .two-labels .ensures)
 
-returns-2 : tie.Need-returns-2
-returns-2 c = let t : tie.After-t2 = search in rw (t .t2 .given .1) (c .on-label .ensures)
+for-label : tie.Need-returns-2
+for-label c = let t : tie.After-t2 = search in rw (t .t2 .given .1) (c .on-label .ensures)
 
-returns-3 : tie.Need-returns-3
-returns-3 c = let t : tie.After-t3 = search in rw (t .t3 .given .1) (c .on-handle .ensures)
+for-handle : tie.Need-returns-3
+for-handle c = let t : tie.After-t3 = search in rw (t .t3 .given .1) (c .on-handle .ensures)
 
 pub on-labels-spec : {M : Type 1} → statement M
 on-labels-spec =
@@ -22,6 +22,6 @@ on-labels-spec =
     (λ c κs. search needs)
     (λ c. search needs)
     (λ c κs. search needs)
-    returns
-    returns-2
-    returns-3)
+    for-pair
+    for-label
+    for-handle)

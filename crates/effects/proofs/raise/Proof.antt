@@ -4,11 +4,11 @@ use borrow.Author.Needs.{needs}
 use Rattle.effects.proofs.raise.Statement.{statement}
 use Rattle.effects.proofs.raise.Tie as tie
 
-returns : tie.Need-returns
-returns c = let i : tie.Then1 = search in let r : tie.After-rises = search in rw (← r .rises .ensures, not-true (r .rises .result) (i .if1 .taken)) (c .faulty .ensures)
+above-clearance : tie.Need-returns
+above-clearance c = let i : tie.Then1 = search in let r : tie.After-rises = search in rw (← r .rises .ensures, not-true (r .rises .result) (i .if1 .taken)) (c .faulty .ensures)
 
-returns-2 : tie.Need-returns-2
-returns-2 c = let i : tie.Else1 = search in let r : tie.After-rises = search in rw (← r .rises .ensures, not-false (r .rises .result) (i .if1 .left)) (c .decides .ensures)
+raises : tie.Need-returns-2
+raises c = let i : tie.Else1 = search in let r : tie.After-rises = search in rw (← r .rises .ensures, not-false (r .rises .result) (i .if1 .left)) (c .decides .ensures)
 
 pub raise-spec : {M : Type 1} → statement M
-raise-spec = tie.close (tie.spec (λ c κs. search needs) (λ c κs. search needs) returns (λ c κs. search needs) returns-2)
+raise-spec = tie.close (tie.spec (λ c κs. search needs) (λ c κs. search needs) above-clearance (λ c κs. search needs) raises)

@@ -3,12 +3,12 @@ use borrow.Author.Needs.{needs}
 use Rattle.effects.proofs.raised.Statement.{statement}
 use Rattle.effects.proofs.raised.Tie as tie
 
-returns : tie.Need-returns
-returns c = rw (c .enum-told .given .1)
+by-none : tie.Need-returns
+by-none c = rw (c .enum-told .given .1)
 
-returns-2 : tie.Need-returns-2
-returns-2 c = let l : tie.After-label-of = search in let b : tie.After-by = search in rw (b .by .given .1, c .join .ensures, l .label-of .ensures)
+by-record : tie.Need-returns-2
+by-record c = let l : tie.After-label-of = search in let b : tie.After-by = search in rw (b .by .given .1, c .join .ensures, l .label-of .ensures)
 
 pub raised-spec : {M : Type 1} → statement M
 raised-spec =
-    tie.close (tie.spec (λ c. search needs) (λ c. search needs) (λ c κs. search needs) (λ c κs. search needs) returns returns-2)
+    tie.close (tie.spec (λ c. search needs) (λ c. search needs) (λ c κs. search needs) (λ c κs. search needs) by-none by-record)

@@ -6,25 +6,25 @@ use borrow.Author.Needs.{needs}
 use Rattle.effects.proofs.room.Statement.{statement}
 use Rattle.effects.proofs.room.Tie as tie
 
-returns : tie.Need-returns
-returns c = let t : tie.After-target = search in rw (← t .target .ensures, ne-eqb _ _ (c .if1 .taken))
+refused : tie.Need-returns
+refused c = let t : tie.After-target = search in rw (← t .target .ensures, ne-eqb _ _ (c .if1 .taken))
 
-returns-2 : tie.Need-returns-2
-returns-2 c = let i : tie.Else1 = search in let t : tie.After-target = search in rw (← t .target .ensures, eq-eqb (t .target .result) 0 (i .if1 .left), le-ltb _ _ (c .if2 .taken))
+too-deep : tie.Need-returns-2
+too-deep c = let i : tie.Else1 = search in let t : tie.After-target = search in rw (← t .target .ensures, eq-eqb (t .target .result) 0 (i .if1 .left), le-ltb _ _ (c .if2 .taken))
 
-returns-3 : tie.Need-returns-3
-returns-3 c = let j : tie.Else2 = search in let i : tie.Else1 = search in let t : tie.After-target = search in rw (← t .target .ensures, eq-eqb (t .target .result) 0 (i .if1 .left), lt-ltb _ _ (j .if2 .left), lt-leb _ _ (c .if3 .taken))
+too-few-steps : tie.Need-returns-3
+too-few-steps c = let j : tie.Else2 = search in let i : tie.Else1 = search in let t : tie.After-target = search in rw (← t .target .ensures, eq-eqb (t .target .result) 0 (i .if1 .left), lt-ltb _ _ (j .if2 .left), lt-leb _ _ (c .if3 .taken))
 
-returns-4 : tie.Need-returns-4
-returns-4 c =
+too-few-places : tie.Need-returns-4
+too-few-places c =
     let k : tie.Else3 = search in let j : tie.Else2 = search in let i : tie.Else1 = search in let t : tie.After-target = search in let s : tie.Start = search in
     rw (← t .target .ensures, eq-eqb (t .target .result) 0 (i .if1 .left), lt-ltb _ _ (j .if2 .left), le-leb _ _ (k .if3 .left), lt-leb (s .args .a .next + 1 + s .args .k) (s .args .a .limit) (omega (arith, c .if4 .taken, s .pre)))
 
-returns-5 : tie.Need-returns-5
-returns-5 c =
+enough : tie.Need-returns-5
+enough c =
     let k : tie.Else3 = search in let j : tie.Else2 = search in let i : tie.Else1 = search in let t : tie.After-target = search in let s : tie.Start = search in
     rw (← t .target .ensures, eq-eqb (t .target .result) 0 (i .if1 .left), lt-ltb _ _ (j .if2 .left), le-leb _ _ (k .if3 .left), le-leb (s .args .a .next + 1 + s .args .k) (s .args .a .limit) (omega (arith, c .if4 .left, s .pre)))
 
 pub room-spec : {M : Type 1} → statement M
 room-spec =
-    tie.close (tie.spec (λ c κs. search needs) returns returns-2 returns-3 (λ c. search needs) returns-4 returns-5)
+    tie.close (tie.spec (λ c κs. search needs) refused too-deep too-few-steps (λ c. search needs) too-few-places enough)

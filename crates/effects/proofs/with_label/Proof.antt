@@ -3,17 +3,17 @@ use borrow.Author.Needs.{needs}
 use Rattle.effects.proofs.with_label.Statement.{statement}
 use Rattle.effects.proofs.with_label.Tie as tie
 
-returns : tie.Need-returns
-returns c = let t : tie.After-enum-told = search in rw (t .enum-told .given .1) (c .raise .ensures)
+raises : tie.Need-returns
+raises c = let t : tie.After-enum-told = search in rw (t .enum-told .given .1) (c .raise .ensures)
 
-returns-2 : tie.Need-returns-2
-returns-2 c = let t : tie.After-enum-told2 = search in rw (t .enum-told2 .given .1) (c .lower .ensures)
+lowers : tie.Need-returns-2
+lowers c = let t : tie.After-enum-told2 = search in rw (t .enum-told2 .given .1) (c .lower .ensures)
 
-returns-3 : tie.Need-returns-3
-returns-3 c = let t : tie.After-f = search in rw (t .f .given .1) (c .make .ensures)
+makes : tie.Need-returns-3
+makes c = let t : tie.After-f = search in rw (t .f .given .1) (c .make .ensures)
 
-returns-4 : tie.Need-returns-4
-returns-4 c = let t : tie.After-f2 = search in rw (t .f2 .given .1) (c .enter .ensures)
+enters : tie.Need-returns-4
+enters c = let t : tie.After-f2 = search in rw (t .f2 .given .1) (c .enter .ensures)
 
 pub with-label-spec : {M : Type 1} → statement M
 with-label-spec =
@@ -27,7 +27,7 @@ with-label-spec =
     (λ c κs. search needs)
     (λ c. search needs)
     (λ c κs. search needs)
-    returns
-    returns-2
-    returns-3
-    returns-4)
+    raises
+    lowers
+    makes
+    enters)

@@ -50,14 +50,14 @@ module _ (d : Led) where
   small : getD (masks top) (top .loop .i) 0 < 64
   small = let e : tie.Else1 Inv-loop μ-loop = search in omega (arith, read .wide .ensures, e .if1 .left)
 
-returns : tie.Need-returns Inv-loop μ-loop
-returns c =
+past-63 : tie.Need-returns Inv-loop μ-loop
+past-63 c =
     let w : Read = search in
     let h = head w in
     sym (h .loop .inv .1 ∙ canon-wide 6 (masks h) (h .loop .i) (inside w) (omega (arith, w .wide .ensures, c .if1 .taken)))
 
-returns-2 : tie.Need-returns-2 Inv-loop μ-loop
-returns-2 c =
+not-leading : tie.Need-returns-2 Inv-loop μ-loop
+not-leading c =
     let d : Led = search in
     let w = read d in
     let l = top d .loop in
@@ -72,8 +72,8 @@ loop-again c =
       l .inv .1 ∙ canon-on 6 (masks (top d)) (l .i) (inside w) _ (w .wide .ensures) _ (d .leads .ensures) (small d) (not-false _ (c .if2 .left)),
     )
 
-returns-3 : tie.Need-returns-3 Inv-loop μ-loop
-returns-3 c = let h : Head = search in sym (h .loop .inv .1 ∙ canon-end 6 (masks h) (h .loop .i) (omega (arith, c .loop-test .left)))
+all-passed : tie.Need-returns-3 Inv-loop μ-loop
+all-passed c = let h : Head = search in sym (h .loop .inv .1 ∙ canon-end 6 (masks h) (h .loop .i) (omega (arith, c .loop-test .left)))
 
 pub canonical-spec : {M : Type 1} → statement M
 canonical-spec =
@@ -84,11 +84,11 @@ canonical-spec =
     (search needs)
     (search needs)
     (search needs)
-    returns
+    past-63
     (search needs)
     (search needs)
-    returns-2
+    not-leading
     (search needs)
     (search needs)
     loop-again
-    returns-3)
+    all-passed)

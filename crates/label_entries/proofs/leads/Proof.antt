@@ -52,14 +52,14 @@ module _ (e : Above) where
   above : clause top < getD (masks top) (top .loop .j) 0
   above = omega (arith, read .wide .ensures, e .if1 .left)
 
-returns : tie.Need-returns Inv-loop μ-loop
-returns c =
+not-above : tie.Need-returns Inv-loop μ-loop
+not-above c =
     let w : Read = search in
     let h = head w in
     sym (h .loop .inv .1 ∙ leads-below (clause h) (masks h) (h .loop .j) (inside w) (omega (arith, w .wide .ensures, c .if1 .taken)))
 
-returns-2 : tie.Need-returns-2 Inv-loop μ-loop
-returns-2 c =
+is-subset : tie.Need-returns-2 Inv-loop μ-loop
+is-subset c =
     let e : Above = search in
     let w = read e in
     let l = top e .loop in
@@ -72,8 +72,8 @@ loop-again c =
     let l = top e .loop in
     (omega (arith, inside w), l .inv .1 ∙ leads-on (clause (top e)) (masks (top e)) (l .j) (inside w) _ (w .wide .ensures) (above e) (c .if2 .left))
 
-returns-3 : tie.Need-returns-3 Inv-loop μ-loop
-returns-3 c = let h : Head = search in sym (h .loop .inv .1 ∙ leads-end (clause h) (masks h) (h .loop .j) (omega (arith, c .loop-test .left)))
+all-passed : tie.Need-returns-3 Inv-loop μ-loop
+all-passed c = let h : Head = search in sym (h .loop .inv .1 ∙ leads-end (clause h) (masks h) (h .loop .j) (omega (arith, c .loop-test .left)))
 
 pub leads-spec : {M : Type 1} → statement M
 leads-spec =
@@ -84,9 +84,9 @@ leads-spec =
     (λ c. search needs)
     (search needs)
     (search needs)
-    returns
-    returns-2
+    not-above
+    is-subset
     (search needs)
     (search needs)
     loop-again
-    returns-3)
+    all-passed)

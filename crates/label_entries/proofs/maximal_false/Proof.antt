@@ -33,11 +33,11 @@ module _ (h : Head) where
   abbrev x : ℕ
   x = begun .args .x
 
-returns : tie.Need-returns Inv-loop μ-loop
-returns c = let h : tie.After-has Inv-loop μ-loop = search in sym (maximal-in _ _ (sym (h .has .ensures) ∙ c .if1 .taken))
+in-table : tie.Need-returns Inv-loop μ-loop
+in-table c = let h : tie.After-has Inv-loop μ-loop = search in sym (maximal-in _ _ (sym (h .has .ensures) ∙ c .if1 .taken))
 
-returns-2 : tie.Need-returns-2 Inv-loop μ-loop
-returns-2 c =
+not-maximal : tie.Need-returns-2 Inv-loop μ-loop
+not-maximal c =
     let q : Tried = search in
     let i : tie.In-loop Inv-loop μ-loop = search in
     let h : Head = search in
@@ -49,8 +49,8 @@ loop-again c =
     let h : Head = search in
     (search needs, passes-next (t h) (x h) (h .loop .p) (h .loop .inv .1) (sym (q .passes-with .ensures) ∙ not-false _ (c .if2 .left)))
 
-returns-3 : tie.Need-returns-3 Inv-loop μ-loop
-returns-3 c =
+is-maximal : tie.Need-returns-3 Inv-loop μ-loop
+is-maximal c =
     let h : Head = search in
     let e : tie.Else1 Inv-loop μ-loop = search in
     let f : tie.After-has Inv-loop μ-loop = search in
@@ -63,11 +63,11 @@ maximal-false-spec =
     Inv-loop
     μ-loop
     (search needs)
-    returns
+    in-table
     (λ c. (search needs, tt))
     (search needs)
-    returns-2
+    not-maximal
     (search needs)
     (search needs)
     loop-again
-    returns-3)
+    is-maximal)

@@ -4,14 +4,14 @@ use borrow.Author.Needs.{needs}
 use Rattle.label_entries.proofs.passes_with.Statement.{statement}
 use Rattle.label_entries.proofs.passes_with.Tie as tie
 
-has-requires-2 : tie.Need-has-requires-2
-has-requires-2 c κs = let b : tie.Start = search in rw (c .singleton .ensures) (adding-lt 6 (b .args .x) (b .args .p) (b .pre .0) (b .pre .1))
+union-within : tie.Need-has-requires-2
+union-within c κs = let b : tie.Start = search in rw (c .singleton .ensures) (adding-lt 6 (b .args .x) (b .args .p) (b .pre .0) (b .pre .1))
 
-returns : tie.Need-returns
-returns c = let h : tie.After-has = search in simp (← (h .has .ensures), c .if1 .taken)
+is-member : tie.Need-returns
+is-member c = let h : tie.After-has = search in simp (← (h .has .ensures), c .if1 .taken)
 
-returns-2 : tie.Need-returns-2
-returns-2 c =
+with-member : tie.Need-returns-2
+with-member c =
     let s : tie.After-singleton = search in
     let e : tie.Else1 = search in
     let h : tie.After-has = search in
@@ -19,4 +19,4 @@ returns-2 c =
 
 pub passes-with-spec : {M : Type 1} → statement M
 passes-with-spec =
-    tie.close (tie.spec (search needs) (search needs) has-requires-2 returns returns-2)
+    tie.close (tie.spec (search needs) (search needs) union-within is-member with-member)

@@ -10,11 +10,11 @@ use borrow.Author.Needs.{needs}
 use Rattle.label_entries.proofs.read_entry.Statement.{statement}
 use Rattle.label_entries.proofs.read_entry.Tie as tie
 
-returns : tie.Need-returns
-returns c = let b : tie.Start = search in refused (b .args .s .now) (λ w. omega (arith, w .counts, c .if1 .taken))
+no-counts : tie.Need-returns
+no-counts c = let b : tie.Start = search in refused (b .args .s .now) (λ w. omega (arith, w .counts, c .if1 .taken))
 
-returns-2 : tie.Need-returns-2
-returns-2 c = let b : tie.Start = search in refused (b .args .s .now) (λ w. omega (arith, w .whole, c .if2 .taken))
+cut-short : tie.Need-returns-2
+cut-short c = let b : tie.Start = search in refused (b .args .s .now) (λ w. omega (arith, w .whole, c .if2 .taken))
 
 -- ── the entry is whole: what each formula's masks give ──
 
@@ -39,16 +39,16 @@ module _ (c : tie.After-read-formula2) where
   integrity-is : c .read-formula2 .result ≡ readFormula (integrityMasks (xs e2))
   integrity-is = c .read-formula2 .ensures ∙ ap readFormula (integrity-part (xs e2))
 
-returns-3 : tie.Need-returns-3
-returns-3 c = let f : tie.After-read-formula = search in secrecy-refused (xs (e f)) (whole (e f)) (sym (c .enum-told .given .1) ∙ secrecy-is f)
+secrecy-malformed : tie.Need-returns-3
+secrecy-malformed c = let f : tie.After-read-formula = search in secrecy-refused (xs (e f)) (whole (e f)) (sym (c .enum-told .given .1) ∙ secrecy-is f)
 
-returns-4 : tie.Need-returns-4
-returns-4 c =
+integrity-malformed : tie.Need-returns-4
+integrity-malformed c =
     let g : tie.After-read-formula2 = search in
     integrity-refused (xs (e2 g)) (whole (e2 g)) (sym (c .enum-told2 .given .1) ∙ integrity-is g)
 
-returns-5 : tie.Need-returns-5
-returns-5 c =
+entry-read : tie.Need-returns-5
+entry-read c =
     let i : tie.After-integrity = search in
     let g : tie.After-read-formula2 = search in
     let s : tie.After-secrecy = search in
@@ -59,26 +59,26 @@ pub read-entry-spec : {M : Type 1} → statement M
 read-entry-spec =
     tie.close
     (tie.spec
-    returns
+    no-counts
     (search needs)
     (λ c. omega (arith, c .shared-slice-known2 .given 0))
     (λ c. omega (arith, c .shared-slice-known2 .given 0))
     (search needs)
     (λ c. omega (arith, c .shared-slice-known3 .given 1))
     (λ c. omega (arith, c .shared-slice-known3 .given 0, c .shared-slice-known3 .given 1))
-    returns-2
+    cut-short
     (search needs)
     (search needs)
     (search needs)
     (search needs)
     (search needs)
     (search needs)
-    returns-3
+    secrecy-malformed
     (search needs)
     (search needs)
     (search needs)
     (search needs)
     (search needs)
     (search needs)
-    returns-4
-    returns-5)
+    integrity-malformed
+    entry-read)

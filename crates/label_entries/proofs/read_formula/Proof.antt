@@ -7,17 +7,17 @@ use borrow.Author.Needs.{needs}
 use Rattle.label_entries.proofs.read_formula.Statement.{statement}
 use Rattle.label_entries.proofs.read_formula.Tie as tie
 
-returns : tie.Need-returns
-returns c = let b : tie.Start = search in formula-long (b .args .masks .now) (omega (arith, c .if1 .taken))
+too-many : tie.Need-returns
+too-many c = let b : tie.Start = search in formula-long (b .args .masks .now) (omega (arith, c .if1 .taken))
 
-returns-2 : tie.Need-returns-2
-returns-2 c =
+not-canonical : tie.Need-returns-2
+not-canonical c =
     let d : tie.After-canonical = search in
     let b : tie.Start = search in
     formula-bad (b .args .masks .now) (sym (d .canonical .ensures) ∙ not-true _ (c .if2 .taken))
 
-returns-3 : tie.Need-returns-3
-returns-3 c =
+is-read : tie.Need-returns-3
+is-read c =
     let e2 : tie.Else2 = search in
     let d : tie.After-canonical = search in
     let e : tie.Else1 = search in
@@ -26,4 +26,4 @@ returns-3 c =
 
 pub read-formula-spec : {M : Type 1} → statement M
 read-formula-spec =
-    tie.close (tie.spec returns (search needs) returns-2 (search needs) returns-3)
+    tie.close (tie.spec too-many (search needs) not-canonical (search needs) is-read)

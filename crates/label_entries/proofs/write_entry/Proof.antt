@@ -40,8 +40,8 @@ add-a c = omega (arith, few-secrecy c)
 add-e : tie.Need-add-e
 add-e c = omega (arith, few-secrecy c, few-integrity c)
 
-returns : tie.Need-returns
-returns c =
+too-short : tie.Need-returns
+too-short c =
     let n : tie.After-count-clauses2 = search in
     let m = first n .count-clauses .ensures in (
       short-answer (l n) (out n) _ _ m (n .count-clauses2 .ensures) (omega (arith, c .if1 .taken)),
@@ -50,8 +50,8 @@ returns c =
 
 -- ── the parts ──
 
-part-write-clauses-end-2 : tie.Need-part-write-clauses-end-2
-part-write-clauses-end-2 c =
+second-part-fits : tie.Need-part-write-clauses-end-2
+second-part-fits c =
     let o : tie.After-out = search in
     let e : tie.Else1 = search in
     omega (arith, e .if1 .left, simp length-set at (o .out .given .1))
@@ -62,8 +62,8 @@ same-length c =
     let o : tie.After-out = search in
     o2 .out2 .given .1 ∙ o .out .given .1 ∙ simp length-set
 
-returns-2 : tie.Need-returns-2
-returns-2 c =
+is-written : tie.Need-returns-2
+is-written c =
     let w2 : tie.After-write-clauses2 = search in
     let w : tie.After-write-clauses = search in
     let e : tie.Else1 = search in
@@ -81,7 +81,7 @@ write-entry-spec =
     (search needs)
     add-a
     add-e
-    returns
+    too-short
     (λ c. omega (arith, few-secrecy (search)))
     (search needs)
     (λ c. omega (arith, few-integrity (search)))
@@ -92,7 +92,7 @@ write-entry-spec =
     (λ c κs. search needs)
     (search needs)
     (search needs)
-    part-write-clauses-end-2
+    second-part-fits
     (λ c κs. search needs)
     same-length
-    returns-2)
+    is-written)

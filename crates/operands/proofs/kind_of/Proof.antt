@@ -4,11 +4,11 @@ use borrow.Author.Needs.{needs}
 use Rattle.operands.proofs.kind_of.Statement.{statement}
 use Rattle.operands.proofs.kind_of.Tie as tie
 
-returns : tie.Need-returns
-returns c = search needs
+is-sealed : tie.Need-returns
+is-sealed c = search needs
 
-returns-2 : tie.Need-returns-2
-returns-2 c = kind-other _ (c .if1 .left)
+is-reference : tie.Need-returns-2
+is-reference c = kind-other _ (c .if1 .left)
 
 pub kind-of-spec : {M : Type 1} → statement M
-kind-of-spec = tie.close (tie.spec returns returns-2)
+kind-of-spec = tie.close (tie.spec is-sealed is-reference)

@@ -5,21 +5,21 @@ use borrow.Author.Needs.{needs}
 use Rattle.operands.proofs.label_at.Statement.{statement}
 use Rattle.operands.proofs.label_at.Tie as tie
 
-returns : tie.Need-returns
-returns c = label-out _ _ (c .if1 .taken)
+past-end : tie.Need-returns
+past-end c = label-out _ _ (c .if1 .taken)
 
-returns-2 : tie.Need-returns-2
+in-file : tie.Need-returns-2
 unfolding labelIn
-returns-2 c = let w : tie.After-word-at = search in rw (c .word-at2 .ensures, w .word-at .ensures)
+in-file c = let w : tie.After-word-at = search in rw (c .word-at2 .ensures, w .word-at .ensures)
 
 pub label-at-spec : {M : Type 1} → statement M
 label-at-spec =
     tie.close
     (tie.spec
-    returns
+    past-end
     (λ c. search needs)
     (λ c κs. search needs)
     (λ c. search needs)
     (λ c. search needs)
     (λ c κs. search needs)
-    returns-2)
+    in-file)

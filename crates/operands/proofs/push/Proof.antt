@@ -4,11 +4,11 @@ use borrow.Author.Needs.{needs}
 use Rattle.operands.proofs.push.Statement.{statement}
 use Rattle.operands.proofs.push.Tie as tie
 
-returns : tie.Need-returns
-returns c = let i : tie.Then1 = search in rw (lt-ltb _ _ (i .if1 .taken), c .faulty .ensures)
+no-room : tie.Need-returns
+no-room c = let i : tie.Then1 = search in rw (lt-ltb _ _ (i .if1 .taken), c .faulty .ensures)
 
-returns-2 : tie.Need-returns-2
-returns-2 c = let i : tie.Else1 = search in rw (le-ltb _ _ (i .if1 .left), c .decides .ensures)
+room-left : tie.Need-returns-2
+room-left c = let i : tie.Else1 = search in rw (le-ltb _ _ (i .if1 .left), c .decides .ensures)
 
 pub push-spec : {M : Type 1} → statement M
-push-spec = tie.close (tie.spec (λ c κs. search needs) returns (λ c κs. search needs) returns-2)
+push-spec = tie.close (tie.spec (λ c κs. search needs) no-room (λ c κs. search needs) room-left)

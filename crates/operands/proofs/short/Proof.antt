@@ -4,11 +4,11 @@ use borrow.Author.Needs.{needs}
 use Rattle.operands.proofs.short.Statement.{statement}
 use Rattle.operands.proofs.short.Tie as tie
 
-returns : tie.Need-returns
-returns c = let i : tie.Then1 = search in rw (lt-ltb _ _ (i .if1 .taken), c .faulty .ensures)
+too-few : tie.Need-returns
+too-few c = let i : tie.Then1 = search in rw (lt-ltb _ _ (i .if1 .taken), c .faulty .ensures)
 
-returns-2 : tie.Need-returns-2
-returns-2 c = rw (le-ltb _ _ (c .if1 .left))
+enough : tie.Need-returns-2
+enough c = rw (le-ltb _ _ (c .if1 .left))
 
 pub short-spec : {M : Type 1} → statement M
-short-spec = tie.close (tie.spec (λ c κs. search needs) returns returns-2)
+short-spec = tie.close (tie.spec (λ c κs. search needs) too-few enough)

@@ -4,16 +4,16 @@ use borrow.Author.Needs.{needs}
 use Rattle.operands.proofs.try_frame.Statement.{statement}
 use Rattle.operands.proofs.try_frame.Tie as tie
 
-returns : tie.Need-returns
-returns c = let i : tie.Then1 = search in rw (lt-ltb _ _ (i .if1 .taken), c .faulty .ensures)
+no-room : tie.Need-returns
+no-room c = let i : tie.Then1 = search in rw (lt-ltb _ _ (i .if1 .taken), c .faulty .ensures)
 
-returns-2 : tie.Need-returns-2
-returns-2 c = let j : tie.Then2 = search in let i : tie.Else1 = search in rw (le-ltb _ _ (i .if1 .left), lt-ltb _ _ (j .if2 .taken), c .decides .ensures)
+frame-left : tie.Need-returns-2
+frame-left c = let j : tie.Then2 = search in let i : tie.Else1 = search in rw (le-ltb _ _ (i .if1 .left), lt-ltb _ _ (j .if2 .taken), c .decides .ensures)
 
-returns-3 : tie.Need-returns-3
-returns-3 c = let j : tie.Else2 = search in let i : tie.Else1 = search in rw (le-ltb _ _ (i .if1 .left), le-ltb _ _ (j .if2 .left), c .faulty2 .ensures)
+no-frame : tie.Need-returns-3
+no-frame c = let j : tie.Else2 = search in let i : tie.Else1 = search in rw (le-ltb _ _ (i .if1 .left), le-ltb _ _ (j .if2 .left), c .faulty2 .ensures)
 
 pub try-frame-spec : {M : Type 1} → statement M
 try-frame-spec =
     tie.close
-    (tie.spec (λ c κs. search needs) returns (λ c κs. search needs) returns-2 (λ c κs. search needs) returns-3)
+    (tie.spec (λ c κs. search needs) no-room (λ c κs. search needs) frame-left (λ c κs. search needs) no-frame)

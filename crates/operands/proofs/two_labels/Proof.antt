@@ -3,20 +3,20 @@ use borrow.Author.Needs.{needs}
 use Rattle.operands.proofs.two_labels.Statement.{statement}
 use Rattle.operands.proofs.two_labels.Tie as tie
 
-returns : tie.Need-returns
-returns c = let y : tie.After-enum-told = search in rw (y .enum-told .given .1) (c .faulty .ensures)
+top-number : tie.Need-returns
+top-number c = let y : tie.After-enum-told = search in rw (y .enum-told .given .1) (c .faulty .ensures)
 
-returns-2 : tie.Need-returns-2
-returns-2 c = let x : tie.After-enum-told2 = search in let y : tie.After-y = search in rw (y .y .given .1, x .enum-told2 .given .1) (c .faulty2 .ensures)
+below-number : tie.Need-returns-2
+below-number c = let x : tie.After-enum-told2 = search in let y : tie.After-y = search in rw (y .y .given .1, x .enum-told2 .given .1) (c .faulty2 .ensures)
 
-returns-3 : tie.Need-returns-3
-returns-3 c = let x : tie.After-x = search in let y : tie.After-y = search in rw (y .y .given .1, x .x .given .1) (c .of-pair .ensures)
+both-labels : tie.Need-returns-3
+both-labels c = let x : tie.After-x = search in let y : tie.After-y = search in rw (y .y .given .1, x .x .given .1) (c .of-pair .ensures)
 
-returns-4 : tie.Need-returns-4
-returns-4 c = let x : tie.After-enum-told3 = search in let y : tie.After-y = search in rw (y .y .given .1, x .enum-told3 .given .1) (c .faulty3 .ensures)
+below-handle : tie.Need-returns-4
+below-handle c = let x : tie.After-enum-told3 = search in let y : tie.After-y = search in rw (y .y .given .1, x .enum-told3 .given .1) (c .faulty3 .ensures)
 
-returns-5 : tie.Need-returns-5
-returns-5 c = let y : tie.After-enum-told4 = search in rw (y .enum-told4 .given .1) (c .faulty4 .ensures)
+top-handle : tie.Need-returns-5
+top-handle c = let y : tie.After-enum-told4 = search in rw (y .enum-told4 .given .1) (c .faulty4 .ensures)
 
 pub two-labels-spec : {M : Type 1} → statement M
 two-labels-spec =
@@ -33,8 +33,8 @@ two-labels-spec =
     (λ c κs. search needs)
     (λ c. search needs)
     (λ c κs. search needs)
-    returns
-    returns-2
-    returns-3
-    returns-4
-    returns-5)
+    top-number
+    below-number
+    both-labels
+    below-handle
+    top-handle)

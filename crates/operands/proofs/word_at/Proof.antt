@@ -6,8 +6,8 @@ use borrow.Author.Needs.{needs}
 use Rattle.operands.proofs.word_at.Statement.{statement}
 use Rattle.operands.proofs.word_at.Tie as tie
 
-returns-2 : tie.Need-returns-2
-returns-2 c = let s : tie.Start = search in sym (List·getD-eq-default (now (s .args .s)) 0 (c .if1 .left))
+past-end : tie.Need-returns-2
+past-end c = let s : tie.Start = search in sym (List·getD-eq-default (now (s .args .s)) 0 (c .if1 .left))
 
 pub word-at-spec : {M : Type 1} → statement M
-word-at-spec = tie.close (tie.spec (λ c. search needs) (λ c. search needs) (λ c. search needs) returns-2)
+word-at-spec = tie.close (tie.spec (λ c. search needs) (λ c. search needs) (λ c. search needs) past-end)

@@ -25,39 +25,39 @@ start : (s : tie.Start) → Behind 0 s
 unfolding countsOk
 start s = record { is = refl }
 
-behind1 : (c : tie.Else1) → Behind 1 (search)
-behind1 c = pass (le-leb _ _ (c .if1 .left)) (start (search))
+two-labels : (c : tie.Else1) → Behind 1 (search)
+two-labels c = pass (le-leb _ _ (c .if1 .left)) (start (search))
 
-behind2 : (c : tie.Else2) → Behind 2 (search)
-behind2 c = pass (le-leb _ _ (c .if2 .left)) (behind1 (search))
+labels-fit : (c : tie.Else2) → Behind 2 (search)
+labels-fit c = pass (le-leb _ _ (c .if2 .left)) (two-labels (search))
 
-behind3 : (c : tie.Else3) → Behind 3 (search)
-behind3 c = pass (le-leb _ _ (c .if3 .left)) (behind2 (search))
+records-fit : (c : tie.Else3) → Behind 3 (search)
+records-fit c = pass (le-leb _ _ (c .if3 .left)) (labels-fit (search))
 
-behind4 : (c : tie.Else4) → Behind 4 (search)
-behind4 c = pass (le-leb _ _ (c .if4 .left)) (behind3 (search))
+some-code : (c : tie.Else4) → Behind 4 (search)
+some-code c = pass (le-leb _ _ (c .if4 .left)) (records-fit (search))
 
-behind5 : (c : tie.Else5) → Behind 5 (search)
-behind5 c = pass (le-leb _ _ (c .if5 .left)) (behind4 (search))
+code-fits : (c : tie.Else5) → Behind 5 (search)
+code-fits c = pass (le-leb _ _ (c .if5 .left)) (some-code (search))
 
-behind6 : (c : tie.Else6) → Behind 6 (search)
-behind6 c = pass (le-leb _ _ (c .if6 .left)) (behind5 (search))
+some-steps : (c : tie.Else6) → Behind 6 (search)
+some-steps c = pass (le-leb _ _ (c .if6 .left)) (code-fits (search))
 
-behind7 : (c : tie.Else7) → Behind 7 (search)
-behind7 c = pass (le-leb _ _ (c .if7 .left)) (behind6 (search))
+places-reach : (c : tie.Else7) → Behind 7 (search)
+places-reach c = pass (le-leb _ _ (c .if7 .left)) (some-steps (search))
 
-returns-8 : tie.Need-returns-8
-returns-8 c = last (behind7 (search))
+most-places-decide : tie.Need-returns-8
+most-places-decide c = last (places-reach (search))
 
 pub counts-ok-spec : {M : Type 1} → statement M
 counts-ok-spec =
     tie.close
     (tie.spec
     (λ c. fail (lt-leb _ _ (c .if1 .taken)) (start (search)))
-    (λ c. fail (lt-leb _ _ (c .if2 .taken)) (behind1 (search)))
-    (λ c. fail (lt-leb _ _ (c .if3 .taken)) (behind2 (search)))
-    (λ c. fail (lt-leb _ _ (c .if4 .taken)) (behind3 (search)))
-    (λ c. fail (lt-leb _ _ (c .if5 .taken)) (behind4 (search)))
-    (λ c. fail (lt-leb _ _ (c .if6 .taken)) (behind5 (search)))
-    (λ c. fail (lt-leb _ _ (c .if7 .taken)) (behind6 (search)))
-    returns-8)
+    (λ c. fail (lt-leb _ _ (c .if2 .taken)) (two-labels (search)))
+    (λ c. fail (lt-leb _ _ (c .if3 .taken)) (labels-fit (search)))
+    (λ c. fail (lt-leb _ _ (c .if4 .taken)) (records-fit (search)))
+    (λ c. fail (lt-leb _ _ (c .if5 .taken)) (some-code (search)))
+    (λ c. fail (lt-leb _ _ (c .if6 .taken)) (code-fits (search)))
+    (λ c. fail (lt-leb _ _ (c .if7 .taken)) (some-steps (search)))
+    most-places-decide)

@@ -101,19 +101,19 @@ check7 a = let h : tie.After-read-header = search in finds7 (bs h) (head h) (is-
 
 -- ── the answers ──
 
-returns : tie.Need-returns
-returns c =
+size-refused : tie.Need-returns
+size-refused c =
     let b : tie.Start = search in
     refuses (bytes b) (b .args .labels .now) 0 (stopped (check1 (search) ∙ not-true _ (c .if1 .taken)) (start (bytes b)))
 
-returns-2 : tie.Need-returns-2
-returns-2 c = let h : tie.After-read-header = search in refuses (bs h) (ws h) 1 (stopped (check2 (search) ∙ not-true _ (c .if2 .taken)) (passed1 h))
+counts-refused : tie.Need-returns-2
+counts-refused c = let h : tie.After-read-header = search in refuses (bs h) (ws h) 1 (stopped (check2 (search) ∙ not-true _ (c .if2 .taken)) (passed1 h))
 
 offsets-ok-requires : tie.Need-offsets-ok-requires
 offsets-ok-requires c κs = let h : tie.After-read-header = search in h .read-header .ensures .1
 
-returns-3 : tie.Need-returns-3
-returns-3 c = let h : tie.After-read-header = search in refuses (bs h) (ws h) 2 (stopped (check3 (search) ∙ not-true _ (c .if3 .taken)) (passed2 (search)))
+offsets-refused : tie.Need-returns-3
+offsets-refused c = let h : tie.After-read-header = search in refuses (bs h) (ws h) 2 (stopped (check3 (search) ∙ not-true _ (c .if3 .taken)) (passed2 (search)))
 
 part-read-labels-end : tie.Need-part-read-labels-end
 part-read-labels-end c = let z = placing (search) in omega arith
@@ -121,17 +121,17 @@ part-read-labels-end c = let z = placing (search) in omega arith
 read-labels-requires : tie.Need-read-labels-requires
 read-labels-requires c κs = counts (search) .labels
 
-returns-4 : tie.Need-returns-4
-returns-4 c = let h : tie.After-read-header = search in refuses (bs h) (ws h) 3 (stopped (check4 (search) ∙ not-true _ (c .if4 .taken)) (passed3 (search)))
+labels-refused : tie.Need-returns-4
+labels-refused c = let h : tie.After-read-header = search in refuses (bs h) (ws h) 3 (stopped (check4 (search) ∙ not-true _ (c .if4 .taken)) (passed3 (search)))
 
-returns-5 : tie.Need-returns-5
-returns-5 c = let h : tie.After-read-header = search in refuses (bs h) (ws h) 4 (stopped (check5 (search) ∙ not-true _ (c .if5 .taken)) (passed4 (search)))
+start-refused : tie.Need-returns-5
+start-refused c = let h : tie.After-read-header = search in refuses (bs h) (ws h) 4 (stopped (check5 (search) ∙ not-true _ (c .if5 .taken)) (passed4 (search)))
 
 records-ok-requires : tie.Need-records-ok-requires
 records-ok-requires c κs = counts (search) .records
 
-returns-6 : tie.Need-returns-6
-returns-6 c = let h : tie.After-read-header = search in refuses (bs h) (ws h) 5 (stopped (check6 (search) ∙ not-true _ (c .if6 .taken)) (passed5 (search)))
+records-refused : tie.Need-returns-6
+records-refused c = let h : tie.After-read-header = search in refuses (bs h) (ws h) 5 (stopped (check6 (search) ∙ not-true _ (c .if6 .taken)) (passed5 (search)))
 
 code-ok-requires : tie.Need-code-ok-requires
 code-ok-requires c κs =
@@ -141,11 +141,11 @@ code-ok-requires c κs =
     let part = ap length (part-to-end (bs h) (head h .code .offset)) ∙ length-drop (head h .code .offset) (bs h) in
     omega (arith, n .code, z .code, z .whole, part)
 
-returns-7 : tie.Need-returns-7
-returns-7 c = let h : tie.After-read-header = search in refuses (bs h) (ws h) 6 (stopped (check7 (search) ∙ not-true _ (c .if7 .taken)) (passed6 (search)))
+code-refused : tie.Need-returns-7
+code-refused c = let h : tie.After-read-header = search in refuses (bs h) (ws h) 6 (stopped (check7 (search) ∙ not-true _ (c .if7 .taken)) (passed6 (search)))
 
-returns-8 : tie.Need-returns-8
-returns-8 c =
+file-loaded : tie.Need-returns-8
+file-loaded c =
     let h : tie.After-read-header = search in
     let q = loads (bs h) (ws h) (sym (past (check7 (search) ∙ not-false _ (c .if7 .left)) (passed6 (search)) .to)) in
     (ap File (is-head h) ∙ q .0, ap (λ (t : Table). t .words) (table (search)) ∙ q .1)
@@ -155,27 +155,27 @@ load-spec =
     tie.close
     (tie.spec
     (search needs)
-    returns
+    size-refused
     (search needs)
     (search needs)
-    returns-2
+    counts-refused
     offsets-ok-requires
-    returns-3
+    offsets-refused
     (λ c. placing (search) .records)
     (λ c. placing (search) .records)
     part-read-labels-end
     read-labels-requires
-    returns-4
+    labels-refused
     (search needs)
-    returns-5
+    start-refused
     (λ c. let z = placing (search) in omega arith)
     (λ c. let z = placing (search) in omega arith)
     (λ c. let z = placing (search) in omega arith)
     records-ok-requires
-    returns-6
+    records-refused
     (λ c. let z = placing (search) in omega arith)
     (λ c. let z = placing (search) in omega arith)
     (search needs)
     code-ok-requires
-    returns-7
-    returns-8)
+    code-refused
+    file-loaded)

@@ -26,26 +26,26 @@ start : (s : tie.Start) → Behind 0 s
 unfolding offsetsOk
 start s = record { is = refl }
 
-behind1 : (c : tie.Else1) → Behind 1 (search)
-behind1 c = pass (eq-eqb _ _ (c .if1 .left)) (start (search))
+labels-placed : (c : tie.Else1) → Behind 1 (search)
+labels-placed c = pass (eq-eqb _ _ (c .if1 .left)) (start (search))
 
-behind2 : (c : tie.Else2) → Behind 2 (search)
-behind2 c = pass (le-leb _ _ (c .if2 .left)) (behind1 (search))
+records-placed : (c : tie.Else2) → Behind 2 (search)
+records-placed c = pass (le-leb _ _ (c .if2 .left)) (labels-placed (search))
 
-behind3 : (c : tie.Else3) → Behind 3 (search)
-behind3 c = pass (eq-eqb _ _ (c .if3 .left)) (behind2 (search))
+code-placed : (c : tie.Else3) → Behind 3 (search)
+code-placed c = pass (eq-eqb _ _ (c .if3 .left)) (records-placed (search))
 
-returns-4 : tie.Need-returns-4
-returns-4 c = last (behind3 (search))
+length-decides : tie.Need-returns-4
+length-decides c = last (code-placed (search))
 
 pub offsets-ok-spec : {M : Type 1} → statement M
 offsets-ok-spec =
     tie.close
     (tie.spec
     (λ c. fail (ne-eqb _ _ (c .if1 .taken)) (start (search)))
-    (λ c. fail (lt-leb _ _ (c .if2 .taken)) (behind1 (search)))
+    (λ c. fail (lt-leb _ _ (c .if2 .taken)) (labels-placed (search)))
     (search needs)
     (search needs)
-    (λ c. fail (ne-eqb _ _ (c .if3 .taken)) (behind2 (search)))
+    (λ c. fail (ne-eqb _ _ (c .if3 .taken)) (records-placed (search)))
     (search needs)
-    returns-4)
+    length-decides)

@@ -101,8 +101,8 @@ loop-holds c =
     let whole : n - 0 ≡ n = omega arith in
     (omega arith, omega arith, table-start (readLabels n bs) ∙ ap (λ (k : ℕ). tableFrom 0 (labelWords []) (readLabels k bs)) (sym whole))
 
-returns : tie.Need-returns Inv-loop μ-loop
-returns c =
+malformed : tie.Need-returns Inv-loop μ-loop
+malformed c =
     let t : tie.After-enum-told Inv-loop μ-loop = search in
     let h : Head = search in
     c .no-labels .ensures ∙ sym (here (search) ∙ entry-malformed (i h) (ws h) (behind h) (rest h) (entry (search) ∙ t .enum-told .given .1))
@@ -118,15 +118,15 @@ loop-again c =
           ∙ ap (λ (r : List ℕ). tableFrom (i h + 1) (putLabel (i h) (label l) (ws h)) (readLabels (behind h) r)) (drop-drop (size l) (at h) (bs h)),
     )
 
-returns-2 : tie.Need-returns-2 Inv-loop μ-loop
-returns-2 c =
+all-read : tie.Need-returns-2 Inv-loop μ-loop
+all-read c =
     let o : tie.After-loop Inv-loop μ-loop = search in
     let h : Head = search in
     let over : length (bs h) ≤ at h = omega (arith, c .if1 .taken) in
     sym (left h 0 (omega (arith, o .loop-test .left)) ∙ labels-end (i h) (ws h) (rest h) (drop-of-length-le (bs h) over))
 
-returns-3 : tie.Need-returns-3 Inv-loop μ-loop
-returns-3 c =
+bytes-over : tie.Need-returns-3 Inv-loop μ-loop
+bytes-over c =
     let e : tie.Else1 Inv-loop μ-loop = search in
     let o : tie.After-loop Inv-loop μ-loop = search in
     let h : Head = search in
@@ -147,7 +147,7 @@ read-labels-spec =
     (λ c. search needs)
     (λ c. search needs)
     (λ c κs. search needs)
-    returns
+    malformed
     (λ c. omega (arith, few (search)))
     (λ c. omega (arith, few (search)))
     (λ c. omega (arith, few (search)))
@@ -159,6 +159,6 @@ read-labels-spec =
     (λ c. omega (arith, few (search)))
     (λ c. omega (arith, small (search)))
     loop-again
-    returns-2
+    all-read
     (λ c κs. search needs)
-    returns-3)
+    bytes-over)

@@ -67,14 +67,14 @@ loop-holds c =
     let whole : b .args .count - 0 ≡ b .args .count = omega arith in
     (omega arith, ap (λ (k : ℕ). recordsOk (b .args .labels) (b .args .bytes .now) k 0) (sym whole))
 
-returns : tie.Need-returns Inv-loop μ-loop
-returns c =
+kind-refused : tie.Need-returns Inv-loop μ-loop
+kind-refused c =
     let a : tie.After-byte-at Inv-loop μ-loop = search in
     let h : Head = search in
     sym (here (search) ∙ kind-stops (l h) (bs h) (behind h) (6 * i h) (omega (arith, a .byte-at .ensures, c .if1 .taken)))
 
-returns-2 : tie.Need-returns-2 Inv-loop μ-loop
-returns-2 c =
+label-refused : tie.Need-returns-2 Inv-loop μ-loop
+label-refused c =
     let a : tie.After-index-at Inv-loop μ-loop = search in
     let h : Head = search in
     sym (here (search) ∙ label-stops (l h) (bs h) (behind h) (6 * i h) (kind (search)) (omega (arith, a .index-at .ensures, c .if2 .taken)))
@@ -90,9 +90,9 @@ loop-again c =
           ∙ ap (recordsOk (l h) (bs h) (behind h)) next,
     )
 
-returns-3 : tie.Need-returns-3 Inv-loop μ-loop
+all-passed : tie.Need-returns-3 Inv-loop μ-loop
 unfolding recordsOk
-returns-3 c = sym (left (search) 0 (omega (arith, c .loop-test .left)))
+all-passed c = sym (left (search) 0 (omega (arith, c .loop-test .left)))
 
 pub records-ok-spec : {M : Type 1} → statement M
 records-ok-spec =
@@ -103,11 +103,11 @@ records-ok-spec =
     loop-holds
     (λ c. omega (arith, small (search), begun (search) .pre))
     (λ c κs. search needs)
-    returns
+    kind-refused
     (λ c. search needs)
     (λ c κs. search needs)
-    returns-2
+    label-refused
     (λ c. search needs)
     (λ c. omega (arith, small (search)))
     loop-again
-    returns-3)
+    all-passed)

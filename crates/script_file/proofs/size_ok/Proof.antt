@@ -6,13 +6,13 @@ use Rattle.script_file.proofs.Tests.{pass, fail, last}
 use Rattle.script_file.proofs.size_ok.Statement.{statement}
 use Rattle.script_file.proofs.size_ok.Tie as tie
 
-returns : tie.Need-returns
+too-short : tie.Need-returns
 unfolding sizeOk
-returns c = fail (lt-leb _ _ (c .if1 .taken)) (record { is = refl })
+too-short c = fail (lt-leb _ _ (c .if1 .taken)) (record { is = refl })
 
-returns-2 : tie.Need-returns-2
+longest-decides : tie.Need-returns-2
 unfolding sizeOk
-returns-2 c = last (pass (le-leb _ _ (c .if1 .left)) (record { is = refl }))
+longest-decides c = last (pass (le-leb _ _ (c .if1 .left)) (record { is = refl }))
 
 pub size-ok-spec : {M : Type 1} → statement M
-size-ok-spec = tie.close (tie.spec returns returns-2)
+size-ok-spec = tie.close (tie.spec too-short longest-decides)

@@ -4,20 +4,20 @@ use borrow.Author.Needs.{needs}
 use Rattle.store.proofs.contents_of.Statement.{statement}
 use Rattle.store.proofs.contents_of.Tie as tie
 
-returns : tie.Need-returns
-returns c = let m : tie.At-match-keys1 = search in rw (m .match .keys1, c .low .ensures)
+as-number : tie.Need-returns
+as-number c = let m : tie.At-match-keys1 = search in rw (m .match .keys1, c .low .ensures)
 
-returns-2 : tie.Need-returns-2
-returns-2 c = rw (c .match .keys2)
+as-label : tie.Need-returns-2
+as-label c = rw (c .match .keys2)
 
-returns-3 : tie.Need-returns-3
-returns-3 c = rw (c .match .keys3)
+as-sealed : tie.Need-returns-3
+as-sealed c = rw (c .match .keys3)
 
-returns-4 : tie.Need-returns-4
-returns-4 c = rw (c .match .keys4)
+as-reference : tie.Need-returns-4
+as-reference c = rw (c .match .keys4)
 
-returns-5 : tie.Need-returns-5
-returns-5 c =
+as-fault : tie.Need-returns-5
+as-fault c =
     let m : tie.At-match-rest = search in
     let first : tie.After-low2 = search in
     let r = m .match .rest in
@@ -30,8 +30,8 @@ contents-of-spec =
     (search needs)
     (search needs)
     (search needs)
-    returns
-    returns-2
-    returns-3
-    returns-4
-    returns-5)
+    as-number
+    as-label
+    as-sealed
+    as-reference
+    as-fault)

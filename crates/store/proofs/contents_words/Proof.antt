@@ -6,11 +6,11 @@ use borrow.Author.Needs.{needs}
 use Rattle.store.proofs.contents_words.Statement.{statement}
 use Rattle.store.proofs.contents_words.Tie as tie
 
-returns : tie.Need-returns
-returns c = let f : tie.After-contents = search in rw (c .datum-words .ensures, f .contents .given .1)
+of-value : tie.Need-returns
+of-value c = let f : tie.After-contents = search in rw (c .datum-words .ensures, f .contents .given .1)
 
-returns-2 : tie.Need-returns-2
-returns-2 c =
+of-fault : tie.Need-returns-2
+of-fault c =
     let f : tie.After-contents2 = search in
     let code : f .contents2 .given .0 .0 < 4294967296 = omega arith in
     let number : f .contents2 .given .0 .1 .0 < 4294967296 = omega arith in
@@ -25,5 +25,5 @@ contents-words-spec =
     (search needs)
     (search needs)
     (search needs)
-    returns
-    returns-2)
+    of-value
+    of-fault)

@@ -3,11 +3,11 @@ use borrow.Author.Needs.{needs}
 use Rattle.store.proofs.handle_words.Statement.{statement}
 use Rattle.store.proofs.handle_words.Tie as tie
 
-returns : tie.Need-returns
-returns c = rw (c .enum-told .given .1)
+of-sealed : tie.Need-returns
+of-sealed c = rw (c .enum-told .given .1)
 
-returns-2 : tie.Need-returns-2
-returns-2 c = rw (c .enum-told2 .given .1)
+of-reference : tie.Need-returns-2
+of-reference c = rw (c .enum-told2 .given .1)
 
 pub handle-words-spec : {M : Type 1} → statement M
-handle-words-spec = tie.close (tie.spec (search needs) (search needs) returns returns-2)
+handle-words-spec = tie.close (tie.spec (search needs) (search needs) of-sealed of-reference)

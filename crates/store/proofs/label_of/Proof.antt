@@ -3,14 +3,14 @@ use borrow.Author.Needs.{needs}
 use Rattle.store.proofs.label_of.Statement.{statement}
 use Rattle.store.proofs.label_of.Tie as tie
 
-returns : tie.Need-returns
-returns c = let l : tie.After-load = search in rw (← l .load .ensures, c .enum-told .given .1)
+empty-place : tie.Need-returns
+empty-place c = let l : tie.After-load = search in rw (← l .load .ensures, c .enum-told .given .1)
 
-returns-2 : tie.Need-returns-2
-returns-2 c =
+record-there : tie.Need-returns-2
+record-there c =
     let l : tie.After-load = search in
     let full : tie.After-r = search in
     rw (← l .load .ensures, full .r .given .1)
 
 pub label-of-spec : {M : Type 1} → statement M
-label-of-spec = tie.close (tie.spec (search needs) (search needs) (search needs) returns returns-2)
+label-of-spec = tie.close (tie.spec (search needs) (search needs) (search needs) empty-place record-there)

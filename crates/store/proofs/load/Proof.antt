@@ -7,11 +7,11 @@ use borrow.Author.Needs.{needs}
 use Rattle.store.proofs.load.Statement.{statement}
 use Rattle.store.proofs.load.Tie as tie
 
-returns : tie.Need-returns
-returns c = let start : tie.Start = search in rw (slot-at (now (start .args .store)) (start .args .p) (omega arith)) (c .slot-of .ensures)
+place-read : tie.Need-returns
+place-read c = let start : tie.Start = search in rw (slot-at (now (start .args .store)) (start .args .p) (omega arith)) (c .slot-of .ensures)
 
-returns-2 : tie.Need-returns-2
-returns-2 c = let start : tie.Start = search in sym (slot-out (now (start .args .store)) (start .args .p) (omega arith))
+no-place : tie.Need-returns-2
+no-place c = let start : tie.Start = search in sym (slot-out (now (start .args .store)) (start .args .p) (omega arith))
 
 pub load-spec : {M : Type 1} → statement M
 load-spec =
@@ -36,5 +36,5 @@ load-spec =
     (search needs)
     (search needs)
     (search needs)
-    returns
-    returns-2)
+    place-read
+    no-place)

@@ -7,14 +7,14 @@ use borrow.Author.Needs.{needs}
 use Rattle.store.proofs.rewrite.Statement.{statement}
 use Rattle.store.proofs.rewrite.Tie as tie
 
-returns : tie.Need-returns
-returns c =
+empty-place : tie.Need-returns
+empty-place c =
     let l : tie.After-load = search in
     let start : tie.Start = search in
     stays-empty (slots (now (start .args .store))) (start .args .p) (start .args .d) (sym (l .load .ensures) ∙ c .enum-told .given .1)
 
-returns-2 : tie.Need-returns-2
-returns-2 c =
+record-there : tie.Need-returns-2
+record-there c =
     let l : tie.After-load = search in
     let full : tie.After-r = search in
     let s : tie.After-save = search in
@@ -29,6 +29,6 @@ rewrite-spec =
     (search needs)
     (search needs)
     (search needs)
-    returns
+    empty-place
     (search needs)
-    returns-2)
+    record-there)

@@ -9,8 +9,8 @@ use borrow.Author.Needs.{needs}
 use Rattle.store.proofs.save.Statement.{statement}
 use Rattle.store.proofs.save.Tie as tie
 
-returns : tie.Need-returns
-returns c =
+place-written : tie.Need-returns
+place-written c =
     let words : tie.After-contents-words = search in
     let start : tie.Start = search in
     let l = now (start .args .store) in
@@ -19,8 +19,8 @@ returns c =
     let w = words .contents-words .result in
     rw (c .kind-word .ensures) (slot-put l p _ _ _ _ _ _ (omega arith) (start .pre) ∙ ap (set (slots l) p) (slot-back (r .kind) (r .label) (r .contents) (w .tag) (w .first) (w .second) (words .contents-words .ensures)))
 
-returns-2 : tie.Need-returns-2
-returns-2 c = let start : tie.Start = search in slot-keep (now (start .args .store)) (start .args .p) _ (omega arith)
+no-place : tie.Need-returns-2
+no-place c = let start : tie.Start = search in slot-keep (now (start .args .store)) (start .args .p) _ (omega arith)
 
 pub save-spec : {M : Type 1} → statement M
 save-spec =
@@ -47,5 +47,5 @@ save-spec =
     (search needs)
     (λ c. simp length-set (omega arith))
     (λ c. simp length-set)
-    returns
-    returns-2)
+    place-written
+    no-place)

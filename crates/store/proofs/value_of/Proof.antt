@@ -3,11 +3,11 @@ use borrow.Author.Needs.{needs}
 use Rattle.store.proofs.value_of.Statement.{statement}
 use Rattle.store.proofs.value_of.Tie as tie
 
-returns : tie.Need-returns
-returns c = let l : tie.After-load = search in rw (← l .load .ensures, c .enum-told .given .1)
+empty-place : tie.Need-returns
+empty-place c = let l : tie.After-load = search in rw (← l .load .ensures, c .enum-told .given .1)
 
-returns-2 : tie.Need-returns-2
-returns-2 c =
+record-there : tie.Need-returns-2
+record-there c =
     let l : tie.After-load = search in
     let full : tie.After-r = search in
     rw (c .datum-of .ensures, ← l .load .ensures, full .r .given .1)
@@ -20,5 +20,5 @@ value-of-spec =
     (search needs)
     (search needs)
     (search needs)
-    returns
-    returns-2)
+    empty-place
+    record-there)

@@ -5,25 +5,25 @@ use borrow.Author.Needs.{needs}
 use Rattle.view.proofs.shown.Statement.{statement}
 use Rattle.view.proofs.shown.Tie as tie
 
-returns : tie.Need-returns
+record-shown : tie.Need-returns
 unfolding shown
-returns c =
+record-shown c =
     let test : tie.Then1 = search in
     let flow : tie.After-flows = search in
     let full : tie.After-slot = search in
     rw (full .slot .given .1, sym (flow .flows .ensures) ∙ test .if1 .taken)
 
-returns-2 : tie.Need-returns-2
+nothing-there : tie.Need-returns-2
 unfolding shown
-returns-2 c = rw (c .enum-told .given .1)
+nothing-there c = rw (c .enum-told .given .1)
 
-returns-3 : tie.Need-returns-3
+record-hidden : tie.Need-returns-3
 unfolding shown
-returns-3 c =
+record-hidden c =
     let test : tie.Else1 = search in
     let flow : tie.After-flows = search in
     let full : tie.After-slot = search in
     rw (full .slot .given .1, sym (flow .flows .ensures) ∙ test .if1 .left)
 
 pub shown-spec : {M : Type 1} → statement M
-shown-spec = tie.close (tie.spec (search needs) (search needs) (search needs) returns returns-2 returns-3)
+shown-spec = tie.close (tie.spec (search needs) (search needs) (search needs) record-shown nothing-there record-hidden)

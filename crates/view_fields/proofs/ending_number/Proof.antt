@@ -4,17 +4,17 @@ use borrow.Author.Needs.{needs}
 use Rattle.view_fields.proofs.ending_number.Statement.{statement}
 use Rattle.view_fields.proofs.ending_number.Tie as tie
 
-returns : tie.Need-returns
+of-result : tie.Need-returns
 unfolding endingNumber
-returns c = rw (c .enum-told .given .1)
+of-result c = rw (c .enum-told .given .1)
 
-returns-2 : tie.Need-returns-2
+of-fault : tie.Need-returns-2
 unfolding endingNumber
-returns-2 c = rw (c .enum-told2 .given .1)
+of-fault c = rw (c .enum-told2 .given .1)
 
-returns-3 : tie.Need-returns-3
+of-spent : tie.Need-returns-3
 unfolding endingNumber
-returns-3 c = rw (c .enum-told3 .given .1)
+of-spent c = rw (c .enum-told3 .given .1)
 
 pub ending-number-spec : {M : Type 1} → statement M
-ending-number-spec = tie.close (tie.spec (search needs) (search needs) (search needs) returns returns-2 returns-3)
+ending-number-spec = tie.close (tie.spec (search needs) (search needs) (search needs) of-result of-fault of-spent)

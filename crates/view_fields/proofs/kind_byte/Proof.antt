@@ -4,13 +4,13 @@ use borrow.Author.Needs.{needs}
 use Rattle.view_fields.proofs.kind_byte.Statement.{statement}
 use Rattle.view_fields.proofs.kind_byte.Tie as tie
 
-returns : tie.Need-returns
+of-sealed : tie.Need-returns
 unfolding kindByte
-returns c = rw (c .enum-told .given .1)
+of-sealed c = rw (c .enum-told .given .1)
 
-returns-2 : tie.Need-returns-2
+of-reference : tie.Need-returns-2
 unfolding kindByte
-returns-2 c = rw (c .enum-told2 .given .1)
+of-reference c = rw (c .enum-told2 .given .1)
 
 pub kind-byte-spec : {M : Type 1} → statement M
-kind-byte-spec = tie.close (tie.spec (search needs) (search needs) returns returns-2)
+kind-byte-spec = tie.close (tie.spec (search needs) (search needs) of-sealed of-reference)

@@ -8,16 +8,16 @@ use borrow.Author.Needs.{needs}
 use Rattle.view_fields.proofs.of_datum.Statement.{statement}
 use Rattle.view_fields.proofs.of_datum.Tie as tie
 
-returns : tie.Need-returns
+of-number : tie.Need-returns
 unfolding datumField
-returns c = let number : tie.After-d = search in rw (number .d .given .1)
+of-number c = let number : tie.After-d = search in rw (number .d .given .1)
 
-returns-2 : tie.Need-returns-2
+of-label : tie.Need-returns-2
 unfolding datumField
-returns-2 c = let label : tie.After-d2 = search in rw (label .d2 .given .1)
+of-label c = let label : tie.After-d2 = search in rw (label .d2 .given .1)
 
-returns-3 : tie.Need-returns-3
-returns-3 c =
+of-handle : tie.Need-returns-3
+of-handle c =
     let byte : tie.After-kind-byte = search in
     let handle : tie.After-d3 = search in
     let k = handle .d3 .given .0 .0 in
@@ -34,6 +34,6 @@ of-datum-spec =
     (search needs)
     (search needs)
     (λ c. let byte : tie.After-kind-byte = search in let handle : tie.After-d3 = search in omega (arith, byte .kind-byte .ensures, kind-small (handle .d3 .given .0 .0)))
-    returns
-    returns-2
-    returns-3)
+    of-number
+    of-label
+    of-handle)

@@ -29,27 +29,27 @@ module _ (t : ℕ) where
   -- ── the decision ──
 
   module _ (c : Here t) where
-    abbrev pub planned : Planned t
+    abbrev planned : Planned t
     planned = search
 
-    abbrev pub d : Decision
+    abbrev d : Decision
     d = c .match .d
 
-    abbrev pub σ₀ : List ℕ
+    abbrev σ₀ : List ℕ
     σ₀ = top t planned .loop .store
 
     pub kept-store : length σ₀ ≡ words
     kept-store = top t planned .loop .inv .1
 
     -- by each of the three cases of a task
-    pub decides : d ≡ decisionOf (planned .task-of .result) (y t planned) (x t planned) (account (arm t planned)) (slots σ₀)
+    decides : d ≡ decisionOf (planned .task-of .result) (y t planned) (x t planned) (account (arm t planned)) (slots σ₀)
     decides =
         ⊎-elim (λ w. w .3 ∙ ap (λ (p : Task). decisionOf p (y t planned) (x t planned) (account (arm t planned)) (slots σ₀)) (sym (w .1 .given .1)))
         (⊎-elim (λ w. w .6 ∙ w .5 .ensures ∙ ap (λ (p : Task). decisionOf p (y t planned) (x t planned) (account (arm t planned)) (slots σ₀)) (sym (w .1 .given .1)))
         (λ w. w .8 ∙ (rw (w .5 .ensures) at (w .7 .ensures)) ∙ ap (λ (p : Task). decisionOf p (y t planned) (x t planned) (account (arm t planned)) (slots σ₀)) (sym (w .1 .given .1))))
         (c .match .came)
 
-    pub good : Good (code t (top t planned)) (ws t (top t planned)) (rs t (top t planned)) (runs (program (code t (top t planned)) (ws t (top t planned)) (rs t (top t planned)))) (control (arm t planned)) (account (arm t planned)) (slots σ₀) (y t planned) (x t planned) d
+    good : Good (code t (top t planned)) (ws t (top t planned)) (rs t (top t planned)) (runs (program (code t (top t planned)) (ws t (top t planned)) (rs t (top t planned)))) (control (arm t planned)) (account (arm t planned)) (slots σ₀) (y t planned) (x t planned) d
         (stepOf (code t (top t planned)) (ws t (top t planned)) (rs t (top t planned)) (now-paid t planned) (slots σ₀))
     good =
         found (code t (top t planned)) (ws t (top t planned)) (rs t (top t planned)) (now-paid t planned) (slots σ₀) (f t planned) _ _ d (ok t planned) (first t planned .least .ensures) (second t planned .least2 .ensures) (read t planned .decode .ensures)
@@ -68,10 +68,10 @@ module _ (t : ℕ) where
     abbrev pub now-dropped : State
     now-dropped = c .pop .result
 
-    abbrev pub place-first : ℕ
+    abbrev place-first : ℕ
     place-first = first t (planned here) .least .result
 
-    abbrev pub place-second : ℕ
+    abbrev place-second : ℕ
     place-second = second t (planned here) .least2 .result
 
     pub applies : Applies (code t (top t (planned here))) (ws t (top t (planned here))) (rs t (top t (planned here))) now-dropped (slots (σ₀ here)) place-first place-second (d here .effect)
@@ -88,7 +88,7 @@ module _ (t : ℕ) where
     pub now-dropped-steps : now-dropped .steps ≡ now-paid t (planned here) .steps
     now-dropped-steps = ap (λ (s : State). s .steps) (c .pop .ensures)
 
-    pub has : {e : Effect} → d here .effect ≡ e → FitsEffect (control now-dropped) (account now-dropped) e
+    has : {e : Effect} → d here .effect ≡ e → FitsEffect (control now-dropped) (account now-dropped) e
     has q = subst (FitsEffect (control now-dropped) (account now-dropped)) q (applies .fits)
 
     -- an effect that is applied, r with the words υ being what it leaves

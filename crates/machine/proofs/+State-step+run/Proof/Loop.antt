@@ -47,7 +47,7 @@ module _ (t : ℕ) where
     ok-paid = rw (p .charge .ensures) (head .loop .inv .0)
 
   module _ (c : Planned t) where
-    abbrev pub paid : Paid t
+    abbrev paid : Paid t
     paid = search
 
     abbrev pub top : Head t
@@ -79,13 +79,13 @@ module _ (t : ℕ) where
     abbrev pub x : Datum
     x = getD (arm .stack) (second .least2 .result) (number 0) .datum
 
-    pub more : 0 < top .loop .todo
+    more : 0 < top .loop .todo
     more = let i : Inside-loop t = search in omega (arith, i .loop-test .taken)
 
     pub falls-todo : top .loop .todo - 1 < top .loop .todo
     falls-todo = omega (arith, more)
 
-    pub turned : Turn (code top) (ws top) (rs top) (top .loop .self) now-paid
+    turned : Turn (code top) (ws top) (rs top) (top .loop .self) now-paid
     turned =
         let e : Going t = search in
         let r : Asked t = search in

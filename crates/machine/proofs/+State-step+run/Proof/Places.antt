@@ -54,7 +54,7 @@ step-below t = and 4 step-kinds.ps (falls 4 step-kinds.ps _<_ μ-step t) step.Pr
 abbrev pub run-at : ℕ → In 4 run-kinds.ps
 run-at t = and 4 run-kinds.ps (is 4 run-kinds.ps μ-run t) run.Pre
 
-abbrev pub run-below : ℕ → In 4 run-kinds.ps
+abbrev run-below : ℕ → In 4 run-kinds.ps
 run-below t = and 4 run-kinds.ps (falls 4 run-kinds.ps _<_ μ-run t) run.Pre
 
 -- ── step ──

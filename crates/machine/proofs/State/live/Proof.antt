@@ -3,17 +3,11 @@ use borrow.Author.Needs.{needs}
 use Rattle.machine.proofs.State.live.Statement.{statement}
 use Rattle.machine.proofs.State.live.Tie as tie
 
-enum-told : tie.Need-enum-told
-enum-told c = search needs
+is-running : tie.Need-returns
+is-running c = rw (c .enum-told .given .1)
 
-enum-told-2 : tie.Need-enum-told-2
-enum-told-2 c = search needs
-
-returns : tie.Need-returns
-returns c = rw (c .enum-told .given .1)
-
-returns-2 : tie.Need-returns-2
-returns-2 c = rw (c .enum-told2 .given .1)
+is-ended : tie.Need-returns-2
+is-ended c = rw (c .enum-told2 .given .1)
 
 pub live-spec : {M : Type 1} → statement M
-live-spec = tie.close (tie.spec enum-told enum-told-2 returns returns-2)
+live-spec = tie.close (tie.spec (λ c. search needs) (λ c. search needs) is-running is-ended)
