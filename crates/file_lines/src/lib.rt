@@ -48,9 +48,10 @@ fn write_lines(file: &[u8], h: Header, labels: &[u64], out: &mut [u8]) -> usize
     let mut store = [0u64; 1536];
     let finish = reading::run_file(file, h, labels, &mut store);
     let listed = h.labels;
+    let count = listed.count;
     let mut at = 0;
     let mut i = 0;
-    while i < listed.count {
+    while i < count {
         let reader = operands::label_at(labels, i);
         at += write_shown(reader, h.steps, finish, &store, &mut out[at..]);
         i += 1;

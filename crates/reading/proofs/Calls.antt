@@ -102,7 +102,7 @@ length-words bs was ws h e =
     rw e
     (cond-one (λ (l : List ℕ). length l ≡ 64) (eqb (refusal bs) 0) (λ _. length-padded 64 (tables (orNone (fileLabels bs)))) (λ _. h))
 
-stopped : (r : Refusal) → eqb (number r) 0 ≡ false
+pub stopped : (r : Refusal) → eqb (number r) 0 ≡ false
 unfolding number
 stopped Size = refl
 stopped Counts = refl
