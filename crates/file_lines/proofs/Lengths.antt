@@ -26,12 +26,19 @@ use Rattle.lines.specs.Cutting.{Cut}
 use Rattle.lines.proofs.Printing.{length-line}
 use Rattle.file_lines.specs.Room.{longestLine}
 
--- ── a view ──
+-- ── a buffer ──
 
 -- what is written over the start of a buffer is read back
 pub taken-back : (v b : List ℕ) (n : ℕ) → n ≡ length v → take n (over v b) ≡ v
 unfolding over
 taken-back v b n e = take-at v _ n (sym e)
+
+-- and it is no longer than the buffer
+pub written-within : (v b out : List ℕ) → out ≡ over v b → length v ≤ length out
+unfolding over
+written-within v b out e = let f = ap length e ∙ length-append v (drop (length v) b) in omega arith
+
+-- ── a view ──
 
 module _ (Reads : Label → Bool) where
   -- a view of a store of 256 places
