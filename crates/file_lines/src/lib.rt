@@ -29,7 +29,13 @@ const LINE: usize = 13 + 7 * PLACES + 2 * VIEW;
 pub const ROOM: usize = 32 * LINE;
 
 // Writes the line of what a label is shown of a run, and gives how many bytes that is.
-fn write_shown(reader: Label, steps: usize, finish: Finished, store: &[u64], out: &mut [u8]) -> usize
+fn write_shown(
+    reader: Label,
+    steps: usize,
+    finish: Finished,
+    store: &[u64],
+    out: &mut [u8],
+) -> usize
     requires { ⌜ length (now store) ≡ words ⌝ }
     requires { ⌜ length (line (viewOf (observes reader) steps (finished finish (slots (now store))))) ≤ length (now out) ⌝ }
     ensures { λ r. ⌜ (r ≡ length (line (viewOf (observes reader) steps (finished finish (slots (now (store .entry))))))) × (now (out .exit) ≡ over (line (viewOf (observes reader) steps (finished finish (slots (now (store .entry)))))) (now (out .entry))) ⌝ }
