@@ -17,7 +17,7 @@ ghost use Rattle.view.specs.Writing.{observes, finished};
 ghost use Rattle.view_fields.specs.Writing.{over};
 ghost use Rattle.lines.specs.Lines.{line, lines as linesOf, printed};
 ghost use Rattle.reading.specs.Answers.{Loads};
-ghost use Rattle.file_lines.specs.Room.{longestLine, mostPrinted};
+ghost use Rattle.file_lines.specs.Room.{mostPrinted};
 
 // The longest view shows a record at each place. Its line has two digits for each byte and a byte behind each field: 13
 // fields, and 7 of each record.
@@ -55,11 +55,12 @@ fn write_lines(file: &[u8], h: Header, labels: &[u64], out: &mut [u8]) -> usize
     let finish = reading::run_file(file, h, labels, &mut store);
     let listed = h.labels;
     let count = listed.count;
+    let steps = h.steps;
     let mut at = 0;
     let mut i = 0;
     while i < count {
         let reader = operands::label_at(labels, i);
-        at += write_shown(reader, h.steps, finish, &store, &mut out[at..]);
+        at += write_shown(reader, steps, finish, &store, &mut out[at..]);
         i += 1;
     }
     at

@@ -21,10 +21,10 @@ use Rattle.file_lines.proofs.write_lines.Statement.{statement}
 use Rattle.file_lines.proofs.write_lines.Tie as tie
 
 abbrev Inv-loop : tie.InvT-loop
-Inv-loop file h labels out₀ store finish count at₀ i₀ out at i = Written file out₀ out count at i
+Inv-loop file labels out₀ store finish count steps at₀ i₀ out at i = Written file out₀ out count at i
 
 abbrev μ-loop : tie.MeasureT-loop
-μ-loop file h labels out₀ store finish count at₀ i₀ out at i = count - i
+μ-loop file labels out₀ store finish count steps at₀ i₀ out at i = count - i
 
 abbrev Begun : Type 0
 Begun = tie.Start Inv-loop μ-loop
