@@ -9,7 +9,8 @@ const ROOM: usize = 70000;
 // No batch has so many files, and a loop has to end.
 const MOST: usize = 1000000;
 
-// Reads n bytes into `file`, and prints the lines of the file that they are. Tells whether there were so many.
+// Reads n bytes into `file`, and prints the lines of the file that they are. Tells whether there were so many and all was
+// written.
 fn print_sized(file: &mut [u8], n: usize) -> bool {
     if file.len() < n {
         return false;
@@ -18,7 +19,9 @@ fn print_sized(file: &mut [u8], n: usize) -> bool {
     if io::read_full(STDIN_FILENO, part) != n {
         return false;
     }
-    printing::print_file(part);
+    if !printing::print_file(part) {
+        return false;
+    }
     io::write_all(STDOUT_FILENO, b".\n")
 }
 

@@ -105,14 +105,6 @@ fn write_record_fields(count: usize, bytes: &[u8], out: &mut [u8]) -> usize
     at
 }
 
-// How many bytes the line of a view has.
-pub fn line_length(view: &[u8]) -> usize
-    ensures { λ r. ⌜ r ≡ length (line (now (view .entry))) ⌝ }
-{
-    let n = records_in(view);
-    13 + 7 * n + 2 * cut(RECORDS + RECORD * n, view)
-}
-
 // Writes the line of a view, and gives how many bytes that is.
 pub fn write_line(view: &[u8], out: &mut [u8]) -> usize
     requires { ⌜ length (line (now view)) ≤ length (now out) ⌝ }

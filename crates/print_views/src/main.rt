@@ -10,5 +10,7 @@ fn main() {
         os::fail(b"standard input");
         return;
     }
-    printing::print_file(&file[..n]);
+    if !printing::print_file(&file[..n]) {
+        os::fail(b"standard output");
+    }
 }

@@ -102,7 +102,7 @@ length-words bs was ws h e =
     rw e
     (cond-one (λ (l : List ℕ). length l ≡ 64) (eqb (refusal bs) 0) (λ _. length-padded 64 (tables (orNone (fileLabels bs)))) (λ _. h))
 
-stopped : (r : Refusal) → eqb (number r) 0 ≡ false
+pub stopped : (r : Refusal) → eqb (number r) 0 ≡ false
 unfolding number
 stopped Size = refl
 stopped Counts = refl
@@ -121,6 +121,14 @@ read-loads bs h was ws e f =
     let z = file-number bs h e in
     record { none = z; numbers = file-header bs h e; labels = f ∙ sym (loads bs was z .1) }
 
+-- what label i is shown of what the run left
+pub shown-view : (bs : List ℕ) (h : Header) (ws : List ℕ) → Loads bs h ws → (i : ℕ) (l : Label) (f : Finished) (σ : Store)
+    → l ≡ labelIn ws i → Finishes f σ (fileRun bs) → view (observes l) (h .steps) (finished f σ) ≡ fileView bs i
+unfolding fileView
+shown-view bs h ws w i l f σ e k =
+    rw (e, w .labels, labels-are bs (w .none), w .numbers, ← k .store)
+    (sym (view-finished (observes (labelAt bs i)) (header bs .steps) (fileRun bs) f (k .ending) (k .label) (k .clearance) (k .steps) (k .next)))
+
 module _ (bs : List ℕ) (h : Header) (ws : List ℕ) (w : Loads bs h ws) (i : ℕ) (b : List ℕ) where
   pub read-unlisted : h .labels .count ≤ i → refuse 8 b ≡ reading bs i b
   unfolding reading
@@ -128,11 +136,10 @@ module _ (bs : List ℕ) (h : Header) (ws : List ℕ) (w : Loads bs h ws) (i : �
 
   pub read-shown : (l : Label) (f : Finished) (σ : Store) → i < h .labels .count → l ≡ labelIn ws i → Finishes f σ (fileRun bs)
       → show (view (observes l) (h .steps) (finished f σ)) b ≡ reading bs i b
-  unfolding reading fileView
+  unfolding reading
   read-shown l f σ g e k =
-      rw (w .none, lt-ltb i (header bs .labels .count) (rw (← w .numbers) g), e, w .labels, labels-are bs (w .none), w .numbers, ← k .store)
-      (ap (λ (v : List ℕ). show v b)
-      (sym (view-finished (observes (labelAt bs i)) (header bs .steps) (fileRun bs) f (k .ending) (k .label) (k .clearance) (k .steps) (k .next))))
+      rw (w .none, lt-ltb i (header bs .labels .count) (rw (← w .numbers) g))
+      (ap (λ (v : List ℕ). show v b) (shown-view bs h ws w i l f σ e k))
 
 -- ── one number for the answer ──
 

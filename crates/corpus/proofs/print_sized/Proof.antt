@@ -23,4 +23,6 @@ print-sized-spec =
     (search needs)
     (search needs)
     (search needs)
+    (search needs)
+    (search needs)
     (search needs))

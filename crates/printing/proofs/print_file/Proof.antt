@@ -1,25 +1,26 @@
 -- `printing::print_file` is safe and ends.
-use Prim.Native.Nat.{_-_, _≤_}
+use mathlib.Core.Path.{sym}
+use Prim.Native.Nat.{ℕ, _≤_}
+use native.Mathlib.Nat.{le-refl}
+use native.Mathlib.Omega.{arith}
+use lib.ListN.{length, length-replicate}
+use lib.Seq.{length-take-le}
+use Rattle.file_lines.proofs.Lengths.{written-within}
 use borrow.Author.Needs.{needs}
 use Rattle.printing.proofs.print_file.Statement.{statement}
 use Rattle.printing.proofs.print_file.Tie as tie
 
-abbrev Inv-loop : tie.InvT-loop
-Inv-loop file reader₀ reader = reader ≤ 32
-
-abbrev μ-loop : tie.MeasureT-loop
-μ-loop file reader₀ reader = 32 - reader
+-- what was written lies within the buffer
+within : (w : tie.After-write-printed) → w .write-printed .result ≤ length (w .write-printed .last .1 .0)
+within w = omega (arith, w .write-printed .ensures .0, written-within _ _ _ (w .write-printed .ensures .1))
 
 pub print-file-spec : {M : Type 1} → statement M
 print-file-spec =
     tie.close
     (tie.spec
-    Inv-loop
-    μ-loop
-    (search needs)
-    (search needs)
-    (search needs)
-    (search needs)
-    (search needs)
+    (λ c. sym (length-replicate {A = ℕ} 651552 0))
+    (λ c κs. rw (length-replicate {A = ℕ} 651552 0) (le-refl 651552))
+    (λ c. within (search))
+    (λ c. let w : tie.After-write-printed = search in sym (length-take-le _ _ (within w)))
     (search needs)
     (search needs))

@@ -1,0 +1,2 @@
+-- What the contracts of the printed lines' writers cite.
+pub mod Room
