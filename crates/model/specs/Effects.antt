@@ -42,7 +42,7 @@ abbrev pub fail : ℕ → ℕ → Control → Account → Store → Next
 fail code n c a σ = failTo (c .frames) code n c a σ
 
 -- what follows where a test holds, else a fault with number 0
-abbrev check : Bool → ℕ → Control → Account → Store → Next → Next
+abbrev pub check : Bool → ℕ → Control → Account → Store → Next → Next
 check t code c a σ x = cond t x (fail code 0 c a σ)
 
 -- 23 and 24 of SEAL, NEW, WRITE, BLOCK: the current label flows to the target, the target to the clearance

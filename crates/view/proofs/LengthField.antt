@@ -44,7 +44,7 @@ length-field Reads s o lt =
     ∙ small (viewLength Reads (o .store)) lt ∙ sym (length-view Reads s o)
 
 -- no more records are shown than there are places
-shown-most : (Reads : Label → Bool) (σ : Store) → recordsShown Reads σ ≤ length σ
+pub shown-most : (Reads : Label → Bool) (σ : Store) → recordsShown Reads σ ≤ length σ
 unfolding recordsShown
 shown-most Reads [] = omega arith
 shown-most Reads (x ∷ σ) = omega (arith, one-small (shown Reads x), shown-most Reads σ)
