@@ -1,14 +1,18 @@
 -- `printing::print_file` is safe and ends.
-use mathlib.Core.Path.{sym}
+use mathlib.Core.Path.{_≡_, sym}
 use Prim.Native.Nat.{ℕ, _≤_}
-use native.Mathlib.Nat.{le-refl}
+use native.Mathlib.Nat.{le-of-eq}
 use native.Mathlib.Omega.{arith}
-use lib.ListN.{length, length-replicate}
+use lib.ListN.{length, replicate, length-replicate}
 use lib.Seq.{length-take-le}
 use Rattle.file_lines.proofs.Lengths.{written-within}
 use borrow.Author.Needs.{needs}
 use Rattle.printing.proofs.print_file.Statement.{statement}
 use Rattle.printing.proofs.print_file.Tie as tie
+
+-- by the lemma, since counting so many zeros takes the checker long
+long : 651552 ≡ length {A = ℕ} (replicate 651552 0)
+long = sym (length-replicate {A = ℕ} 651552 0)
 
 -- what was written lies within the buffer
 within : (w : tie.After-write-printed) → w .write-printed .result ≤ length (w .write-printed .last .1 .0)
@@ -18,8 +22,8 @@ pub print-file-spec : {M : Type 1} → statement M
 print-file-spec =
     tie.close
     (tie.spec
-    (λ c. sym (length-replicate {A = ℕ} 651552 0))
-    (λ c κs. rw (length-replicate {A = ℕ} 651552 0) (le-refl 651552))
+    (λ c. long)
+    (λ c κs. le-of-eq long)
     (λ c. within (search))
     (λ c. let w : tie.After-write-printed = search in sym (length-take-le _ _ (within w)))
     (search needs)
