@@ -321,7 +321,7 @@ pub fn keep(kind: Kind, l: Label, d: Datum, p: usize, store: &mut [u64])
 }
 
 // The contents of a block's outcome: 31 if the body's last label doesn't flow to the bound, however it ended.
-pub fn outcome(label: Label, e: Ending, b: Label) -> Contents
+fn outcome(label: Label, e: Ending, b: Label) -> Contents
     ensures { λ r. ⌜ r ≡ sealedOf label e b ⌝ }
 {
     if !labels::flows(label, b) {

@@ -385,7 +385,7 @@ impl State {
 }
 
 // A run to its end, from pc on with these locals, an empty stack and no frames.
-pub fn run(
+fn run(
     pc: usize,
     locals: [Value; 16],
     a: Account,

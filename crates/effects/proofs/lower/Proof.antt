@@ -10,8 +10,8 @@ not-above-label c = let i : tie.Then1 = search in let f : tie.After-flows = sear
 above-clearance : tie.Need-returns-2
 above-clearance c = let j : tie.Then2 = search in let g : tie.After-flows2 = search in let i : tie.Else1 = search in let f : tie.After-flows = search in rw (← f .flows .ensures, not-false (f .flows .result) (i .if1 .left), ← g .flows2 .ensures, not-true (g .flows2 .result) (j .if2 .taken)) (c .faulty2 .ensures)
 
-lowers : tie.Need-returns-3
-lowers c = let j : tie.Else2 = search in let g : tie.After-flows2 = search in let i : tie.Else1 = search in let f : tie.After-flows = search in rw (← f .flows .ensures, not-false (f .flows .result) (i .if1 .left), ← g .flows2 .ensures, not-false (g .flows2 .result) (j .if2 .left)) (c .decides .ensures)
+may-lower : tie.Need-returns-3
+may-lower c = let j : tie.Else2 = search in let g : tie.After-flows2 = search in let i : tie.Else1 = search in let f : tie.After-flows = search in rw (← f .flows .ensures, not-false (f .flows .result) (i .if1 .left), ← g .flows2 .ensures, not-false (g .flows2 .result) (j .if2 .left)) (c .decides .ensures)
 
 pub lower-spec : {M : Type 1} → statement M
-lower-spec = tie.close (tie.spec (λ c κs. search needs) (λ c κs. search needs) not-above-label (λ c κs. search needs) (λ c κs. search needs) above-clearance (λ c κs. search needs) lowers)
+lower-spec = tie.close (tie.spec (λ c κs. search needs) (λ c κs. search needs) not-above-label (λ c κs. search needs) (λ c κs. search needs) above-clearance (λ c κs. search needs) may-lower)

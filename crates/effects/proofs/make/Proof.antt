@@ -10,8 +10,8 @@ refused c = let i : tie.Then1 = search in let t : tie.After-target = search in r
 no-place : tie.Need-returns-2
 no-place c = let j : tie.Then2 = search in let i : tie.Else1 = search in let t : tie.After-target = search in rw (← t .target .ensures, eq-eqb (t .target .result) 0 (i .if1 .left), le-ltb _ _ (j .if2 .taken)) (c .faulty2 .ensures)
 
-makes : tie.Need-returns-3
-makes c = let j : tie.Else2 = search in let i : tie.Else1 = search in let t : tie.After-target = search in rw (← t .target .ensures, eq-eqb (t .target .result) 0 (i .if1 .left), lt-ltb _ _ (j .if2 .left)) (c .decides .ensures)
+may-make : tie.Need-returns-3
+may-make c = let j : tie.Else2 = search in let i : tie.Else1 = search in let t : tie.After-target = search in rw (← t .target .ensures, eq-eqb (t .target .result) 0 (i .if1 .left), lt-ltb _ _ (j .if2 .left)) (c .decides .ensures)
 
 pub make-spec : {M : Type 1} → statement M
-make-spec = tie.close (tie.spec (λ c κs. search needs) (λ c κs. search needs) refused (λ c κs. search needs) no-place (λ c κs. search needs) makes)
+make-spec = tie.close (tie.spec (λ c κs. search needs) (λ c κs. search needs) refused (λ c κs. search needs) no-place (λ c κs. search needs) may-make)

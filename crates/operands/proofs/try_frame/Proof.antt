@@ -10,10 +10,10 @@ no-room c = let i : tie.Then1 = search in rw (lt-ltb _ _ (i .if1 .taken), c .fau
 frame-left : tie.Need-returns-2
 frame-left c = let j : tie.Then2 = search in let i : tie.Else1 = search in rw (le-ltb _ _ (i .if1 .left), lt-ltb _ _ (j .if2 .taken), c .decides .ensures)
 
-no-frame : tie.Need-returns-3
-no-frame c = let j : tie.Else2 = search in let i : tie.Else1 = search in rw (le-ltb _ _ (i .if1 .left), le-ltb _ _ (j .if2 .left), c .faulty2 .ensures)
+frames-full : tie.Need-returns-3
+frames-full c = let j : tie.Else2 = search in let i : tie.Else1 = search in rw (le-ltb _ _ (i .if1 .left), le-ltb _ _ (j .if2 .left), c .faulty2 .ensures)
 
 pub try-frame-spec : {M : Type 1} → statement M
 try-frame-spec =
     tie.close
-    (tie.spec (λ c κs. search needs) no-room (λ c κs. search needs) frame-left (λ c κs. search needs) no-frame)
+    (tie.spec (λ c κs. search needs) no-room (λ c κs. search needs) frame-left (λ c κs. search needs) frames-full)

@@ -5,8 +5,8 @@ use borrow.Author.Needs.{needs}
 use Rattle.view.proofs.write_counts.Statement.{statement}
 use Rattle.view.proofs.write_counts.Tie as tie
 
-counts-shown : tie.Need-returns
-counts-shown c =
+numbers-written : tie.Need-returns
+numbers-written c =
     let written : tie.After-write-numbers = search in
     let spent : tie.After-used = search in
     let ending : tie.After-ending-number = search in
@@ -17,8 +17,8 @@ counts-shown c =
     written .write-numbers .ensures
     ∙ counts-written (a .reader) (a .finish) (a .out .now) (flow .flows .ensures) (a .steps) (test .if1 .taken) (ending .ending-number .ensures) (spent .used .ensures)
 
-counts-hidden : tie.Need-returns-2
-counts-hidden c =
+zeros-written : tie.Need-returns-2
+zeros-written c =
     let written : tie.After-write-zeros = search in
     let test : tie.Else1 = search in
     let flow : tie.After-flows = search in
@@ -36,6 +36,6 @@ write-counts-spec =
     (search needs)
     (search needs)
     (search needs)
-    counts-shown
+    numbers-written
     (search needs)
-    counts-hidden)
+    zeros-written)

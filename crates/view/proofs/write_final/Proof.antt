@@ -9,8 +9,8 @@ use borrow.Author.Needs.{needs}
 use Rattle.view.proofs.write_final.Statement.{statement}
 use Rattle.view.proofs.write_final.Tie as tie
 
-final-shown : tie.Need-returns
-final-shown c =
+end-written : tie.Need-returns
+end-written c =
     let third : tie.After-write-label2 = search in
     let second : tie.After-write-label = search in
     let first : tie.After-write-value = search in
@@ -26,8 +26,8 @@ final-shown c =
     (first .write-value .ensures) (second .write-label .ensures) (third .write-label2 .ensures)
     ∙ final-written (a .reader) f (a .out .now) (flow .flows .ensures) (test .if1 .taken) r (result .of-ending .ensures)
 
-final-hidden : tie.Need-returns-2
-final-hidden c =
+zeros-written : tie.Need-returns-2
+zeros-written c =
     let written : tie.After-write-zeros = search in
     let test : tie.Else1 = search in
     let flow : tie.After-flows = search in
@@ -52,6 +52,6 @@ write-final-spec =
     (search needs)
     (search needs)
     (search needs)
-    final-shown
+    end-written
     (search needs)
-    final-hidden)
+    zeros-written)
