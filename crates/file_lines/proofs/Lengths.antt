@@ -1,26 +1,24 @@
 -- How long a view, its line and the lines of a file get. Assumes nothing.
 use mathlib.Core.Bool.{Bool}
-use mathlib.Core.List.{List, _++_}
-use mathlib.Core.Path.{_≡_, sym, ap, ap₂, _∙_}
-use Prim.Native.Nat.{ℕ, zero, suc, _+_, _*_, _/_, _%_, _≤_, _<_}
+use mathlib.Core.List.{List}
+use mathlib.Core.Path.{_≡_, sym, ap, _∙_}
+use Prim.Native.Nat.{ℕ, zero, suc, _+_, _*_, _≤_}
 use native.Mathlib.Nat.{le-refl}
 use native.Mathlib.Omega.{arith}
 use lib.ListN.{length, take, drop, length-append}
-use lib.Seq.{getD-append-add, take-at}
+use lib.Seq.{take-at}
 use Rattle.labels.specs.Order.{flows}
 use Rattle.labels.specs.declared.Label.{Label}
-use Rattle.model.specs.Decoding.{byte, u16}
 use Rattle.model.specs.State.{Outcome}
 use Rattle.store.specs.Slots.{slots}
 use Rattle.store.proofs.Places.{length-slots}
 use Rattle.script_file.specs.Sections.{header, labelAt}
 use Rattle.script_file.specs.Program.{fileRun}
-use Rattle.view_fields.specs.Fields.{littleEndian}
-use Rattle.view_fields.specs.Writing.{over, numbers}
-use Rattle.view.specs.Layout.{recordsShown, counts, viewLength, view}
+use Rattle.view_fields.specs.Writing.{over}
+use Rattle.view.specs.Layout.{recordsShown, viewLength, view}
 use Rattle.view.specs.Reading.{fileView}
-use Rattle.view.proofs.Widths.{length-counts, length-view, view-parts}
-use Rattle.view.proofs.LengthField.{shown-most}
+use Rattle.view.proofs.Widths.{length-view}
+use Rattle.view.proofs.LengthField.{count-field, shown-most}
 use Rattle.lines.specs.Lines.{line, lines}
 use Rattle.lines.specs.Cutting.{Cut}
 use Rattle.lines.proofs.Printing.{length-line}
@@ -47,22 +45,6 @@ module _ (Reads : Label → Bool) where
   view-most l = let e = length-slots l in omega (arith, shown-most Reads (slots l))
 
   module _ (s : ℕ) (o : Outcome) where
-    small : (n : ℕ) → n < 65536 → n % 256 + 256 * (n / 256 % 256) ≡ n
-    small n lt = omega arith
-
-    behind : (bs : List ℕ) (i : ℕ) → byte (counts Reads s (o .ending) (o .account) ++ bs) (6 + i) ≡ byte bs i
-    behind bs i =
-        ap (λ (n : ℕ). byte (counts Reads s (o .ending) (o .account) ++ bs) (n + i)) (sym (length-counts Reads (o .ending) (o .account) s))
-        ∙ getD-append-add (counts Reads s (o .ending) (o .account)) bs i 0
-
-    -- the fourth number of a view is how many records it shows
-    count-field : recordsShown Reads (o .store) < 65536 → u16 (view Reads s o) 6 ≡ recordsShown Reads (o .store)
-    unfolding u16 littleEndian numbers
-    count-field lt =
-        ap (λ (v : List ℕ). u16 v 6) (view-parts Reads s o)
-        ∙ ap₂ (λ (x y : ℕ). x + 256 * y) (behind _ 0) (behind _ 1)
-        ∙ small (recordsShown Reads (o .store)) lt
-
     long : length (view Reads s o) ≡ 62 + 36 * recordsShown Reads (o .store)
     unfolding viewLength
     long = length-view Reads s o
@@ -76,10 +58,10 @@ module _ (Reads : Label → Bool) where
           dropped = ap (λ (n : ℕ). drop n (view Reads s o)) long;
         }
 
-    pub line-most : length (o .store) ≤ 256 → length (line (view Reads s o)) ≤ longestLine
+    line-most : length (o .store) ≤ 256 → length (line (view Reads s o)) ≤ longestLine
     line-most le =
         let n = shown-most Reads (o .store) in
-        let e = length-line (view Reads s o) (recordsShown Reads (o .store)) (length (view Reads s o)) (sym (count-field (omega arith))) whole in
+        let e = length-line (view Reads s o) (recordsShown Reads (o .store)) (length (view Reads s o)) (sym (count-field Reads s o (omega arith))) whole in
         omega (arith, long)
 
 -- ── the lines of a file ──

@@ -6,7 +6,7 @@ use native.Mathlib.Omega.{arith}
 use lib.ListN.{length}
 use Rattle.script_file.specs.Sections.{header}
 use Rattle.script_file.specs.Checks.{refusal}
-use Rattle.script_file.specs.Loading.{number, loaded}
+use Rattle.script_file.specs.Loading.{refusalNumber, loaded}
 use Rattle.script_file.specs.declared.Refusal.{Refusal}
 use Rattle.script_file.specs.declared.Refusal.the-variants.{Size, Counts, Offsets, Labels, Start, Records, Code}
 use Rattle.script_file.specs.declared.Loaded.the-variants.{Refused}
@@ -15,8 +15,8 @@ use Rattle.reading.proofs.Calls.{stopped}
 use Rattle.view_fields.specs.Writing.{over}
 use Rattle.lines.specs.Lines.{lines, refusedLine, printed}
 
-pub one-digit : (r : Refusal) → number r < 10
-unfolding number
+pub one-digit : (r : Refusal) → refusalNumber r < 10
+unfolding refusalNumber
 one-digit Size = omega arith
 one-digit Counts = omega arith
 one-digit Offsets = omega arith
@@ -25,11 +25,11 @@ one-digit Start = omega arith
 one-digit Records = omega arith
 one-digit Code = omega arith
 
-refused-line : (bs : List ℕ) (r : Refusal) (n : ℕ) → Refused r ≡ loaded bs → n ≡ number r → printed bs ≡ refusedLine n
+refused-line : (bs : List ℕ) (r : Refusal) (n : ℕ) → Refused r ≡ loaded bs → n ≡ refusalNumber r → printed bs ≡ refusedLine n
 unfolding printed
 refused-line bs r n e f = rw (← refused-number bs r e, stopped r, f)
 
-pub refused-printed : (bs : List ℕ) (r : Refusal) (n : ℕ) (out b : List ℕ) → Refused r ≡ loaded bs → n ≡ number r → out ≡ over (refusedLine n) b
+pub refused-printed : (bs : List ℕ) (r : Refusal) (n : ℕ) (out b : List ℕ) → Refused r ≡ loaded bs → n ≡ refusalNumber r → out ≡ over (refusedLine n) b
     → (10 ≡ length (printed bs)) × (out ≡ over (printed bs) b)
 unfolding refusedLine
 refused-printed bs r n out b e f q = let l = refused-line bs r n e f in (ap length (sym l), rw l q)

@@ -19,7 +19,7 @@ use Rattle.store.specs.Slots.{parts, slots}
 use Rattle.script_file.specs.Sections.{header, recordBytes, codeBytes, fileLabels, orNone, labelAt}
 use Rattle.script_file.specs.Checks.{refusal}
 use Rattle.model.proofs.Tests.{cond-one}
-use Rattle.script_file.specs.Loading.{number, loaded, tables, labelWords, wordsAfter}
+use Rattle.script_file.specs.Loading.{refusalNumber, loaded, tables, labelWords, wordsAfter}
 use Rattle.script_file.specs.Program.{fileInputs, fileAccount, fileRun}
 use Rattle.script_file.specs.declared.Header.{Header}
 use Rattle.script_file.specs.declared.Refusal.{Refusal}
@@ -102,8 +102,8 @@ length-words bs was ws h e =
     rw e
     (cond-one (λ (l : List ℕ). length l ≡ 64) (eqb (refusal bs) 0) (λ _. length-padded 64 (tables (orNone (fileLabels bs)))) (λ _. h))
 
-pub stopped : (r : Refusal) → eqb (number r) 0 ≡ false
-unfolding number
+pub stopped : (r : Refusal) → eqb (refusalNumber r) 0 ≡ false
+unfolding refusalNumber
 stopped Size = refl
 stopped Counts = refl
 stopped Offsets = refl
@@ -112,7 +112,7 @@ stopped Start = refl
 stopped Records = refl
 stopped Code = refl
 
-pub read-stopped : (bs : List ℕ) (i : ℕ) (b : List ℕ) (r : Refusal) (n : ℕ) → Stopped r ≡ loaded bs → n ≡ number r → refuse n b ≡ reading bs i b
+pub read-stopped : (bs : List ℕ) (i : ℕ) (b : List ℕ) (r : Refusal) (n : ℕ) → Stopped r ≡ loaded bs → n ≡ refusalNumber r → refuse n b ≡ reading bs i b
 unfolding reading
 read-stopped bs i b r n e f = rw (f, ← refused-number bs r e, stopped r)
 

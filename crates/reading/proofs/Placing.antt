@@ -24,7 +24,7 @@ placed ls bs n = inputSlots (inputs ls bs n 0) ++ replicate (256 - n) Empty
 length-placed : (ls : ℕ → Label) (bs : List ℕ) (n i : ℕ) → length (inputSlots (inputs ls bs n i)) ≡ n
 length-placed ls bs n i = length-slots (inputs ls bs n i) ∙ length-inputs ls bs n i
 
-pub placed-none : (ls : ℕ → Label) (bs : List ℕ) → placed ls bs 0 ≡ noRecords
+placed-none : (ls : ℕ → Label) (bs : List ℕ) → placed ls bs 0 ≡ noRecords
 unfolding placed inputs inputSlots
 placed-none ls bs = refl
 
@@ -40,7 +40,7 @@ more ls bs (suc n) i =
 filled : (l : Store) (m : ℕ) (x : Slot) → set (l ++ replicate (suc m) Empty) (length l) x ≡ (l ++ (x ∷ [])) ++ replicate m Empty
 filled l m x = set-append-seam l Empty (replicate m Empty) x ∙ sym (append-snoc l x (replicate m Empty))
 
-pub placed-more : (ls : ℕ → Label) (bs : List ℕ) (n : ℕ) → n < 256 → set (placed ls bs n) n (Full (inputRecord ls bs (6 * n))) ≡ placed ls bs (n + 1)
+placed-more : (ls : ℕ → Label) (bs : List ℕ) (n : ℕ) → n < 256 → set (placed ls bs n) n (Full (inputRecord ls bs (6 * n))) ≡ placed ls bs (n + 1)
 unfolding placed
 placed-more ls bs n h =
     ap₂ (λ (m k : ℕ). set (inputSlots (inputs ls bs n 0) ++ replicate m Empty) k (Full (inputRecord ls bs (6 * n))))
@@ -49,7 +49,7 @@ placed-more ls bs n h =
     ∙ ap (λ (l : Store). l ++ replicate (256 - (n + 1)) Empty)
     (ap (λ (k : ℕ). inputSlots (inputs ls bs n 0) ++ (Full (inputRecord ls bs k) ∷ [])) (sym (zero-add (6 * n))) ∙ sym (more ls bs n 0) ∙ ap (λ (k : ℕ). inputSlots (inputs ls bs k 0)) (sym (add-one n)))
 
-pub placed-all : (ls : ℕ → Label) (bs : List ℕ) (n : ℕ) → placed ls bs n ≡ startStore (inputSlots (inputs ls bs n 0))
+placed-all : (ls : ℕ → Label) (bs : List ℕ) (n : ℕ) → placed ls bs n ≡ startStore (inputSlots (inputs ls bs n 0))
 unfolding placed startStore
 placed-all ls bs n = ap (λ (k : ℕ). inputSlots (inputs ls bs n 0) ++ replicate (256 - k) Empty) (sym (length-placed ls bs n 0))
 

@@ -7,7 +7,7 @@ use lib.Dec.{eqb·suc-zero}
 use lib.ListN.{length, getD}
 use Rattle.script_file.specs.Sections.{header, fileLabels, orNone}
 use Rattle.script_file.specs.Checks.{passes1, passes2, passes3, passes4, passes5, passes6, passes7, lowest, refusal}
-use Rattle.script_file.specs.Loading.{number, refusals, answer, loaded, labelWords, wordsAfter}
+use Rattle.script_file.specs.Loading.{refusalNumber, refusals, answer, loaded, labelWords, wordsAfter}
 use Rattle.script_file.specs.declared.Header.{Header}
 use Rattle.script_file.specs.declared.Refusal.{Refusal}
 use Rattle.script_file.specs.declared.Refusal.the-variants.{Code}
@@ -18,12 +18,12 @@ use Rattle.script_file.proofs.Limits.{Counted, counted, Placed, placed}
 
 -- the number of an answer, 0 where nothing stops the file
 abbrev numberOf : Loaded → ℕ
-numberOf (Refused r) = number r
+numberOf (Refused r) = refusalNumber r
 numberOf (File h) = 0
 
 -- The answer's number is the lowest that applies.
 answer-number : (bs : List ℕ) → numberOf (loaded bs) ≡ refusal bs
-unfolding number loaded refusal
+unfolding refusalNumber loaded refusal
 answer-number bs = each (passes1 bs) (passes2 bs) (passes3 bs) (passes4 bs) (passes5 bs) (passes6 bs) (passes7 bs) where
   each : (a b c d e f g : Bool) → numberOf (answer (lowest 1 (a ∷ b ∷ c ∷ d ∷ e ∷ f ∷ g ∷ [])) (header bs)) ≡ lowest 1 (a ∷ b ∷ c ∷ d ∷ e ∷ f ∷ g ∷ [])
   each false b c d e f g = refl
@@ -35,7 +35,7 @@ answer-number bs = each (passes1 bs) (passes2 bs) (passes3 bs) (passes4 bs) (pas
   each true true true true true true false = refl
   each true true true true true true true = refl
 
-pub refused-number : (bs : List ℕ) (r : Refusal) → Refused r ≡ loaded bs → number r ≡ refusal bs
+pub refused-number : (bs : List ℕ) (r : Refusal) → Refused r ≡ loaded bs → refusalNumber r ≡ refusal bs
 refused-number bs r e = ap numberOf e ∙ answer-number bs
 
 pub file-number : (bs : List ℕ) (h : Header) → File h ≡ loaded bs → refusal bs ≡ 0

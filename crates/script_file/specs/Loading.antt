@@ -14,14 +14,14 @@ use Rattle.script_file.specs.declared.Loaded.{Loaded}
 use Rattle.script_file.specs.declared.Loaded.the-variants.{Refused, File}
 
 -- the number of each refusal
-unfoldable pub number : Refusal → ℕ
-number Size = 1
-number Counts = 2
-number Offsets = 3
-number Labels = 4
-number Start = 5
-number Records = 6
-number Code = 7
+unfoldable pub refusalNumber : Refusal → ℕ
+refusalNumber Size = 1
+refusalNumber Counts = 2
+refusalNumber Offsets = 3
+refusalNumber Labels = 4
+refusalNumber Start = 5
+refusalNumber Records = 6
+refusalNumber Code = 7
 
 -- the refusals in the order of their numbers, from 1
 abbrev pub refusals : List Refusal

@@ -6,7 +6,7 @@ ghost use Rattle.labels.specs.Order.{flows};
 ghost use Rattle.model.specs.Decoding.{u16};
 ghost use Rattle.script_file.specs.Sections.{section, header, readLabels};
 ghost use Rattle.script_file.specs.Checks.{sizeOk, countsOk, offsetsOk, recordsOk};
-ghost use Rattle.script_file.specs.Loading.{number, loaded, wordsAfter};
+ghost use Rattle.script_file.specs.Loading.{refusalNumber, loaded, wordsAfter};
 ghost use Rattle.model.specs.Words.{labelIn};
 ghost use Rattle.script_file.specs.Parts.{Short, Shorts, tableOf};
 use label_entries::Entry;
@@ -46,7 +46,7 @@ pub enum Loaded {
 
 // The number of the check that refuses.
 pub fn number(r: Refusal) -> u64
-    ensures { λ n. ⌜ n ≡ number r ⌝ }
+    ensures { λ n. ⌜ n ≡ refusalNumber r ⌝ }
 {
     match r {
         Refusal::Size => 1,

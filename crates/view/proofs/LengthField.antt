@@ -43,6 +43,15 @@ length-field Reads s o lt =
     ∙ ap₂ (λ (x y : ℕ). x + 256 * y) (behind Reads s (o .ending) (o .account) (tail Reads o) 4) (behind Reads s (o .ending) (o .account) (tail Reads o) 5)
     ∙ small (viewLength Reads (o .store)) lt ∙ sym (length-view Reads s o)
 
+-- The fourth is how many records it shows.
+pub count-field : (Reads : Label → Bool) (s : ℕ) (o : Outcome) → recordsShown Reads (o .store) < 65536
+    → u16 (view Reads s o) 6 ≡ recordsShown Reads (o .store)
+unfolding u16 littleEndian
+count-field Reads s o lt =
+    ap (λ (v : List ℕ). u16 v 6) (view-tail Reads s o)
+    ∙ ap₂ (λ (x y : ℕ). x + 256 * y) (behind Reads s (o .ending) (o .account) (tail Reads o) 0) (behind Reads s (o .ending) (o .account) (tail Reads o) 1)
+    ∙ small (recordsShown Reads (o .store)) lt
+
 -- no more records are shown than there are places
 pub shown-most : (Reads : Label → Bool) (σ : Store) → recordsShown Reads σ ≤ length σ
 unfolding recordsShown

@@ -7,8 +7,8 @@ use borrow.Author.Needs.{needs}
 use Rattle.lines.proofs.cut.Statement.{statement}
 use Rattle.lines.proofs.cut.Tie as tie
 
-returns-2 : tie.Need-returns-2
-returns-2 c =
+all-there : tie.Need-returns-2
+all-there c =
     let begun : tie.Start = search in
     let bs = begun .args .bytes .now in
     let n = begun .args .width in
@@ -20,4 +20,4 @@ returns-2 c =
     }
 
 pub cut-spec : {M : Type 1} → statement M
-cut-spec = tie.close (tie.spec (λ c. search needs) returns-2)
+cut-spec = tie.close (tie.spec (λ c. search needs) all-there)

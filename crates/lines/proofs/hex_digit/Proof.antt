@@ -5,11 +5,11 @@ use borrow.Author.Needs.{needs}
 use Rattle.lines.proofs.hex_digit.Statement.{statement}
 use Rattle.lines.proofs.hex_digit.Tie as tie
 
-returns : tie.Need-returns
-returns c = rw (lt-ltb _ _ (c .if1 .taken))
+decimal : tie.Need-returns
+decimal c = rw (lt-ltb _ _ (c .if1 .taken))
 
-returns-2 : tie.Need-returns-2
-returns-2 c = rw (le-ltb _ _ (c .if1 .left)) (omega arith)
+letter : tie.Need-returns-2
+letter c = rw (le-ltb _ _ (c .if1 .left)) (omega arith)
 
 pub hex-digit-spec : {M : Type 1} → statement M
-hex-digit-spec = tie.close (tie.spec (search needs) returns (search needs) returns-2)
+hex-digit-spec = tie.close (tie.spec (search needs) decimal (search needs) letter)

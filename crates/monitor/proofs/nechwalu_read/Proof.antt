@@ -17,14 +17,14 @@ module _ (r : tie.After-read) where
   known : {a : Answer} → r .read .result ≡ a → reads a (r .read .last .1 .1 .0) ≡ reading (begun .args .file .now) (begun .args .reader) (begun .args .buffer .now)
   known e = ap (λ (x : Answer). reads x (r .read .last .1 .1 .0)) (sym e) ∙ r .read .ensures
 
-returns : tie.Need-returns
-returns c =
+refused : tie.Need-returns
+refused c =
     let n : tie.After-n = search in
     let r : tie.After-read = search in
     call-answered _ _ _ _ (Refused (n .n .given .0 .0)) (known r (n .n .given .1))
 
-returns-2 : tie.Need-returns-2
-returns-2 c =
+viewed : tie.Need-returns-2
+viewed c =
     let n : tie.After-n2 = search in
     let r : tie.After-read = search in
     call-answered _ _ _ _ (Viewed (n .n2 .given .0 .0)) (known r (n .n2 .given .1))
@@ -37,6 +37,6 @@ nechwalu-read-spec =
     (search needs)
     (search needs)
     (search needs)
-    returns
+    refused
     (search needs)
-    returns-2)
+    viewed)

@@ -16,14 +16,14 @@ read-loaded-requires c κs =
     let l : tie.After-load = search in
     (read-loads _ _ _ _ (sym (f .loaded2 .given .1) ∙ l .load .ensures .0) (l .load .ensures .1), as-many l)
 
-returns : tie.Need-returns
-returns c =
+stopped : tie.Need-returns
+stopped c =
     let f : tie.After-loaded = search in
     let l : tie.After-load = search in
     read-stopped _ _ _ _ _ (sym (f .loaded .given .1) ∙ l .load .ensures .0) (c .number .ensures)
 
-returns-2 : tie.Need-returns-2
-returns-2 c = let r : tie.After-read-loaded = search in r .read-loaded .ensures
+loads : tie.Need-returns-2
+loads c = let r : tie.After-read-loaded = search in r .read-loaded .ensures
 
 pub read-spec : {M : Type 1} → statement M
 read-spec =
@@ -35,6 +35,6 @@ read-spec =
     (search needs)
     (λ c. sym (as-many (search)))
     read-loaded-requires
-    returns
+    stopped
     (search needs)
-    returns-2)
+    loads)

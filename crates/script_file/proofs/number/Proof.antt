@@ -1,11 +1,11 @@
 -- `script_file::number` meets its contract: each arm by its refusal. Assumes nothing.
 use borrow.Author.Needs.{needs}
-use Rattle.script_file.specs.Loading.{number}
+use Rattle.script_file.specs.Loading.{refusalNumber}
 use Rattle.script_file.proofs.number.Statement.{statement}
 use Rattle.script_file.proofs.number.Tie as tie
 
 pub number-spec : {M : Type 1} → statement M
-unfolding number
+unfolding refusalNumber
 number-spec =
     tie.close
     (tie.spec
