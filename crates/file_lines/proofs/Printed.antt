@@ -8,22 +8,14 @@ use Rattle.script_file.specs.Sections.{header}
 use Rattle.script_file.specs.Checks.{refusal}
 use Rattle.script_file.specs.Loading.{refusalNumber, loaded}
 use Rattle.script_file.specs.declared.Refusal.{Refusal}
-use Rattle.script_file.specs.declared.Refusal.the-variants.{Size, Counts, Offsets, Labels, Start, Records, Code}
 use Rattle.script_file.specs.declared.Loaded.the-variants.{Refused}
-use Rattle.script_file.proofs.Answers.{refused-number}
+use Rattle.script_file.proofs.Answers.{number-within, refused-number}
 use Rattle.reading.proofs.Calls.{stopped}
 use Rattle.view_fields.specs.Writing.{over}
 use Rattle.lines.specs.Lines.{lines, refusedLine, printed}
 
 pub one-digit : (r : Refusal) → refusalNumber r < 10
-unfolding refusalNumber
-one-digit Size = omega arith
-one-digit Counts = omega arith
-one-digit Offsets = omega arith
-one-digit Labels = omega arith
-one-digit Start = omega arith
-one-digit Records = omega arith
-one-digit Code = omega arith
+one-digit r = omega (arith, number-within r .1)
 
 refused-line : (bs : List ℕ) (r : Refusal) (n : ℕ) → Refused r ≡ loaded bs → n ≡ refusalNumber r → printed bs ≡ refusedLine n
 unfolding printed

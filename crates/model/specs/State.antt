@@ -46,7 +46,7 @@ jump t c = record { pc = t; stack = c .stack; locals = c .locals; frames = c .fr
 abbrev pub setLocal : ℕ → Datum → Control → Control
 setLocal i d c = record { pc = c .pc; stack = c .stack; locals = set (c .locals) i (value d); frames = c .frames }
 
--- ── the account ──
+-- ── the account: `Account`, declared in src/lib.rt, with what is meant by places left ──
 
 abbrev pub withLabel : Label → Account → Account
 withLabel l a = record { label = l; clearance = a .clearance; steps = a .steps; next = a .next; limit = a .limit; depth = a .depth }

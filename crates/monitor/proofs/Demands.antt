@@ -8,28 +8,28 @@ use native.Mathlib.Omega.{arith}
 use borrow.Author.Tests.{lt-ltb, le-ltb, le-leb, eqb-true, eqb-false}
 use lib.Dec.{leb, ltb, eqb}
 use lib.ListN.{length, drop}
+use Rattle.labels.specs.Order.{flows}
+use Rattle.model.specs.State.{Store}
+use Rattle.model.specs.Inputs.{inputSlots}
+use Rattle.model.specs.Running.{startControl, startStore}
+use Rattle.model.specs.declared.Ending.the-variants.{Spent}
 use Rattle.model.proofs.Costs.{Cost}
 use Rattle.model.proofs.Bounds.{runs-within, stepsOf, placesOf, payments, Settled, runs-used, payments-least}
 use Rattle.model.proofs.Spending.{spent-left}
-use Rattle.model.specs.State.{Store}
-use Rattle.model.specs.declared.Ending.the-variants.{Spent}
-use Rattle.model.specs.Inputs.{inputSlots}
-use Rattle.model.specs.Running.{startControl, startStore}
-use Rattle.noninterference.proofs.Demand3.{demand-3}
-use Rattle.noninterference.specs.Alike.{Alike, SameReads, both-refused as reads-refused, both-viewed as reads-viewed}
+use Rattle.script_file.specs.Sections.{header, labelAt}
 use Rattle.script_file.specs.Checks.{passes1, passes2, passes3, passes4, passes5, passes6, passes7, refusal}
 use Rattle.script_file.specs.Program.{fileInputs, fileProgram, fileAccount, fileRun}
-use Rattle.script_file.specs.Sections.{header, labelAt}
 use Rattle.script_file.proofs.Tests.{lowest-most}
 use Rattle.script_file.proofs.Answers.{within-limits}
-use Rattle.view.specs.Reading.{Reading, refuse, fileView, reading}
-use Rattle.view.specs.declared.Answer.the-variants.{Refused, Viewed}
 use Rattle.view.specs.Layout.{recordsAt, viewLength}
+use Rattle.view.specs.Reading.{Reading, refuse, fileView, reading}
+use Rattle.view.specs.declared.Answer.{Answer}
+use Rattle.view.specs.declared.Answer.the-variants.{Refused, Viewed}
 use Rattle.view.proofs.Widths.{length-view}
-use Rattle.labels.specs.Order.{flows}
+use Rattle.noninterference.specs.Alike.{Alike, SameReads, both-refused as reads-refused, both-viewed as reads-viewed}
+use Rattle.noninterference.proofs.Demand3.{demand-3}
 use Rattle.reading.specs.Answers.{reads, codeOf}
 use Rattle.monitor.specs.Calls.{told, SameCalls, both-refused, both-viewed}
-use Rattle.view.specs.declared.Answer.{Answer}
 
 -- ── demand 1: total ──
 

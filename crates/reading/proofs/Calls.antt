@@ -4,7 +4,7 @@ use mathlib.Core.List.{List}
 use mathlib.Core.Path.{_≡_, refl, sym, ap, _∙_}
 use Prim.Native.Nat.{ℕ, _^_, _≤_, _<_}
 use native.Mathlib.Omega.{arith}
-use borrow.Author.Tests.{lt-ltb, le-ltb, lt-leb, le-leb}
+use borrow.Author.Tests.{lt-ltb, le-ltb, lt-leb, le-leb, ne-eqb}
 use lib.Dec.{eqb}
 use lib.ListN.{length, replicate}
 use Rattle.labels.specs.declared.Label.{Label}
@@ -23,11 +23,10 @@ use Rattle.script_file.specs.Loading.{refusalNumber, loaded, tables, labelWords
 use Rattle.script_file.specs.Program.{fileInputs, fileAccount, fileRun}
 use Rattle.script_file.specs.declared.Header.{Header}
 use Rattle.script_file.specs.declared.Refusal.{Refusal}
-use Rattle.script_file.specs.declared.Refusal.the-variants.{Size, Counts, Offsets, Labels, Start, Records, Code}
 use Rattle.script_file.specs.declared.Loaded.the-variants.{Refused as Stopped, File}
 use Rattle.script_file.proofs.Limits.{Counted, Placed}
 use Rattle.script_file.proofs.Labels.{length-padded}
-use Rattle.script_file.proofs.Answers.{refused-number, file-number, file-header, loads, within-limits, in-place}
+use Rattle.script_file.proofs.Answers.{number-within, refused-number, file-number, file-header, loads, within-limits, in-place}
 use Rattle.script_file.proofs.Findings.{recordsIn, codeIn, records-in, code-in}
 use Rattle.view.specs.Layout.{view}
 use Rattle.view.specs.Reading.{Reading, refuse, show, reading, fileView}
@@ -103,14 +102,7 @@ length-words bs was ws h e =
     (cond-one (λ (l : List ℕ). length l ≡ 64) (eqb (refusal bs) 0) (λ _. length-padded 64 (tables (orNone (fileLabels bs)))) (λ _. h))
 
 pub stopped : (r : Refusal) → eqb (refusalNumber r) 0 ≡ false
-unfolding refusalNumber
-stopped Size = refl
-stopped Counts = refl
-stopped Offsets = refl
-stopped Labels = refl
-stopped Start = refl
-stopped Records = refl
-stopped Code = refl
+stopped r = ne-eqb (refusalNumber r) 0 (λ e. omega (arith, number-within r .0))
 
 pub read-stopped : (bs : List ℕ) (i : ℕ) (b : List ℕ) (r : Refusal) (n : ℕ) → Stopped r ≡ loaded bs → n ≡ refusalNumber r → refuse n b ≡ reading bs i b
 unfolding reading

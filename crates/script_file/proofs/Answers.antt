@@ -2,7 +2,8 @@
 use mathlib.Core.Bool.{Bool, true, false}
 use mathlib.Core.List.{List, [], _∷_}
 use mathlib.Core.Path.{_≡_, refl, ap, sym, _∙_}
-use Prim.Native.Nat.{ℕ, suc}
+use Prim.Native.Nat.{ℕ, suc, _≤_}
+use native.Mathlib.Omega.{arith}
 use lib.Dec.{eqb·suc-zero}
 use lib.ListN.{length, getD}
 use Rattle.script_file.specs.Sections.{header, fileLabels, orNone}
@@ -10,7 +11,7 @@ use Rattle.script_file.specs.Checks.{passes1, passes2, passes3, passes4,
 use Rattle.script_file.specs.Loading.{refusalNumber, refusals, answer, loaded, labelWords, wordsAfter}
 use Rattle.script_file.specs.declared.Header.{Header}
 use Rattle.script_file.specs.declared.Refusal.{Refusal}
-use Rattle.script_file.specs.declared.Refusal.the-variants.{Code}
+use Rattle.script_file.specs.declared.Refusal.the-variants.{Size, Counts, Offsets, Labels, Start, Records, Code}
 use Rattle.script_file.specs.declared.Loaded.{Loaded}
 use Rattle.script_file.specs.declared.Loaded.the-variants.{Refused, File}
 use Rattle.script_file.proofs.Tests.{lowest-each}
@@ -34,6 +35,17 @@ answer-number bs = each (passes1 bs) (passes2 bs) (passes3 bs) (passes4 bs) (pas
   each true true true true true false g = refl
   each true true true true true true false = refl
   each true true true true true true true = refl
+
+-- a refusal's number is one of 1 to 7
+pub number-within : (r : Refusal) → (1 ≤ refusalNumber r) × (refusalNumber r ≤ 7)
+unfolding refusalNumber
+number-within Size = (omega arith, omega arith)
+number-within Counts = (omega arith, omega arith)
+number-within Offsets = (omega arith, omega arith)
+number-within Labels = (omega arith, omega arith)
+number-within Start = (omega arith, omega arith)
+number-within Records = (omega arith, omega arith)
+number-within Code = (omega arith, omega arith)
 
 pub refused-number : (bs : List ℕ) (r : Refusal) → Refused r ≡ loaded bs → refusalNumber r ≡ refusal bs
 refused-number bs r e = ap numberOf e ∙ answer-number bs

@@ -12,6 +12,7 @@ use Rattle.view.specs.Layout.{view}
 use Rattle.view.specs.declared.Answer.{Answer}
 use Rattle.view.specs.declared.Answer.the-variants.{Refused, Viewed}
 
+-- `Answer` is declared in src/lib.rt: refused with a number, or viewed with the view's length
 pub record Reading : Type 0 where
   pub answer : Answer
   pub buffer : List ℕ
