@@ -10,9 +10,9 @@ use Rattle.model.specs.Operands.{popFrom, asNumber, asLabel, asHandle, asSealed
 use Rattle.model.specs.Inputs.{inputs, handles, inputSlots}
 use Rattle.model.specs.Effects.{failTo, yield, openSlot, labelSlot, writeSlot, contentsOf, outcome, act}
 use Rattle.model.specs.Running.{perform, step, resume, pay, run, runs, startStore}
-use Rattle.script_file.specs.Sections.{header, labelBytes, recordBytes, codeBytes, readLabels, fileLabels, labelAt}
+use Rattle.script_file.specs.Sections.{header, labelBytes, recordBytes, codeBytes, fileLabels, labelAt}
 use Rattle.code_check.specs.Sweep.{sweep, starts, operandsOk, instrOk, mayBeLast, codeOk}
-use Rattle.script_file.specs.Checks.{every, sizeOk, countsOk, offsetsOk, recordsOk, passes1, passes2, passes3, passes4, passes5, passes6, passes7, refusal}
+use Rattle.script_file.specs.Checks.{sizeOk, countsOk, offsetsOk, passes1, passes2, passes3, passes4, passes5, passes6, passes7, refusal}
 use Rattle.script_file.specs.Program.{fileInputs, fileProgram, fileAccount, fileRun}
 use Rattle.labels.specs.Cases.{allHold}
 use Rattle.view_fields.specs.Fields.{littleEndian, labelField, datumField, contentsField, endingNumber, resultField, kindByte, recordField}
@@ -22,12 +22,14 @@ use Rattle.view.specs.Reading.{fileView}
 use Rattle.lines.specs.Lines.{hex, frontFields, recordFieldWidths, widths, spaced, line, lines, refusedLine, printed}
 use Rattle.cases.specs.Table.{cases}
 use Rattle.cases.specs.Example.{example, exampleLine}
+use Rattle.file_sections.specs.Sections.{readLabels, inputsOf, labelBytesOf, labelOf, labelsOf, recordBytesOf}
+use Rattle.file_sections.specs.Checks.{every, recordsOk}
 
 -- P1 to P12
 pub all-cases-hold : allHold cases ≡ true
-unfolding table implies holds flows join meet wellFormed readEntry u16 u32 operandBytes known size instrs fetch after popFrom asNumber asLabel asHandle asSealed asReference arity dropFrame operate plan inputs handles inputSlots failTo yield openSlot labelSlot writeSlot contentsOf outcome act perform step resume pay run runs startStore header labelBytes recordBytes codeBytes readLabels fileLabels labelAt sweep starts operandsOk instrOk mayBeLast codeOk every sizeOk countsOk offsetsOk recordsOk passes1 passes2 passes3 passes4 passes5 passes6 passes7 refusal fileInputs fileProgram fileAccount fileRun littleEndian labelField datumField contentsField resultField kindByte recordField slotField
+unfolding table implies holds flows join meet wellFormed readEntry u16 u32 operandBytes known size instrs fetch after popFrom asNumber asLabel asHandle asSealed asReference arity dropFrame operate plan inputs handles inputSlots failTo yield openSlot labelSlot writeSlot contentsOf outcome act perform step resume pay run runs startStore header labelBytesOf recordBytesOf codeBytes readLabels labelsOf labelOf sweep starts operandsOk instrOk mayBeLast codeOk every sizeOk countsOk offsetsOk recordsOk passes1 passes2 passes3 passes4 passes5 passes6 passes7 refusal inputsOf fileProgram fileAccount fileRun littleEndian labelField datumField contentsField resultField kindByte recordField slotField
 all-cases-hold = refl
 
 pub example-printed : printed example ≡ exampleLine ++ exampleLine
-unfolding table implies holds flows join meet wellFormed readEntry u16 u32 operandBytes known size instrs fetch after popFrom asNumber asLabel asHandle asSealed asReference arity dropFrame operate plan inputs handles inputSlots failTo yield openSlot labelSlot writeSlot contentsOf outcome act perform step resume pay run runs startStore header labelBytes recordBytes codeBytes readLabels fileLabels labelAt sweep starts operandsOk instrOk mayBeLast codeOk every sizeOk countsOk offsetsOk recordsOk passes1 passes2 passes3 passes4 passes5 passes6 passes7 refusal fileInputs fileProgram fileAccount fileRun littleEndian labelField datumField contentsField resultField kindByte recordField slotField endingNumber shown recordFields recordsShown counts final viewLength view fileView hex frontFields recordFieldWidths widths spaced line lines refusedLine printed
+unfolding table implies holds flows join meet wellFormed readEntry u16 u32 operandBytes known size instrs fetch after popFrom asNumber asLabel asHandle asSealed asReference arity dropFrame operate plan inputs handles inputSlots failTo yield openSlot labelSlot writeSlot contentsOf outcome act perform step resume pay run runs startStore header labelBytesOf recordBytesOf codeBytes readLabels labelsOf labelOf sweep starts operandsOk instrOk mayBeLast codeOk every sizeOk countsOk offsetsOk recordsOk passes1 passes2 passes3 passes4 passes5 passes6 passes7 refusal inputsOf fileProgram fileAccount fileRun littleEndian labelField datumField contentsField resultField kindByte recordField slotField endingNumber shown recordFields recordsShown counts final viewLength view fileView hex frontFields recordFieldWidths widths spaced line lines refusedLine printed
 example-printed = refl

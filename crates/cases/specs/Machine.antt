@@ -8,10 +8,11 @@ use Rattle.labels.specs.Order.{label}
 use Rattle.labels.specs.Cases.{Case}
 use Rattle.labels.specs.declared.Label.{Label}
 use Rattle.model.specs.State.{at}
-use Rattle.script_file.specs.Checks.{every, refusal}
+use Rattle.script_file.specs.Checks.{refusal}
 use Rattle.script_file.specs.Program.{fileRun}
 use Rattle.view_fields.specs.Fields.{littleEndian, valueField, labelField, resultField}
 use Rattle.view.specs.Layout.{slotField}
+use Rattle.file_sections.specs.Checks.{every}
 
 -- the file of l label entries, c input records, a code, s steps and k places
 abbrev file : ℕ → List ℕ → ℕ → List ℕ → List ℕ → ℕ → ℕ → List ℕ

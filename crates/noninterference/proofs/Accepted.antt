@@ -28,6 +28,7 @@ use Rattle.view.specs.Reading.{fileView}
 use Rattle.view.proofs.LengthField.{length-field-places}
 use Rattle.noninterference.proofs.Demand3.{low-set}
 use Rattle.noninterference.proofs.Starts.{start-ok, lands, start-zero}
+use Rattle.file_sections.specs.Sections.{inputsOf}
 
 -- what holds of each state that the run of a file comes to
 pub record NoTotals (bs : List ℕ) (c : Control) (σ : Store) : Type 0 where
@@ -65,7 +66,7 @@ module _ (bs : List ℕ) (ok : refusal bs ≡ 0) where
   start = startStore (inputSlots (fileInputs bs))
 
   start-safe : Safe (fileProgram bs) (every-label bs) Starts goes-to-starts startControl (fileAccount bs) start
-  unfolding fileAccount fileProgram start fileInputs
+  unfolding fileAccount fileProgram start inputsOf
   start-safe =
       record {
         at-start = start-zero (header bs .labels .count) (header bs .records .count) (codeBytes bs) code-ok code-there;
@@ -90,7 +91,7 @@ module _ (bs : List ℕ) (ok : refusal bs ≡ 0) where
 
   -- the run of a file keeps the 256 places of the store
   store-places : length (fileRun bs .store) ≡ 256
-  unfolding fileRun runs start startStore fileInputs
+  unfolding fileRun runs start startStore inputsOf
   store-places =
       sym (run-kept (fileProgram bs) anyLabel (every-label bs) (fileAccount bs .steps) startControl (fileAccount bs) start (start-safe .fresh) .sized)
       ∙ simp (length-append, length-replicate, length-slots, length-inputs) (omega (arith, within-limits bs ok .records))

@@ -30,6 +30,7 @@ use Rattle.view.specs.Reading.{fileView, show, reading}
 use Rattle.view.proofs.SameView.{same-view}
 use Rattle.noninterference.specs.Alike.{legible, Alike, SameReads, both-refused, both-viewed}
 use Rattle.noninterference.proofs.Sections.{legible-each, same-header, same-labels, same-label, same-code, alike-inputs}
+use Rattle.file_sections.specs.Sections.{inputsOf}
 
 -- ── the labels that a reader sees ──
 
@@ -78,7 +79,7 @@ module _ (bs cs : List ℕ) (i : ℕ) (A : Alike bs cs i) (lb : legible bs i ≡
   middle = runs (fileProgram bs) startControl (fileAccount bs) (startStore (inputSlots (fileInputs cs)))
 
   two : LowOutcomes (fileProgram bs) (λ l. flows l (labelAt bs i)) (fileRun bs) middle
-  unfolding fileRun fileProgram fileAccount middle fileInputs passes2
+  unfolding fileRun fileProgram fileAccount middle inputsOf passes2
   two =
       two-starts (fileProgram bs) (λ l. flows l (labelAt bs i)) (fileInputs bs) (fileInputs cs) alike (readable bs (labelAt bs i)) refl
       (labelAt bs 0) (labelAt bs 1) (header bs .steps) (header bs .records .count) (header bs .places)

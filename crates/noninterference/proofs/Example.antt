@@ -17,15 +17,17 @@ use Rattle.model.specs.Operands.{popFrom, asNumber, asLabel, asHandle, asSealed
 use Rattle.model.specs.Effects.{failTo, yield, openSlot, labelSlot, writeSlot, contentsOf, outcome, act}
 use Rattle.model.specs.Inputs.{inputs, handles, inputSlots}
 use Rattle.model.specs.Running.{perform, step, resume, pay, run, runs, startStore}
-use Rattle.script_file.specs.Sections.{header, labelBytes, recordBytes, codeBytes, readLabels, fileLabels, labelAt}
+use Rattle.script_file.specs.Sections.{header, labelBytes, recordBytes, codeBytes, fileLabels, labelAt}
 use Rattle.code_check.specs.Sweep.{sweep, starts, operandsOk, instrOk, mayBeLast, codeOk}
-use Rattle.script_file.specs.Checks.{every, sizeOk, countsOk, offsetsOk, recordsOk, passes1, passes2, passes3, passes4, passes5, passes6, passes7, refusal}
+use Rattle.script_file.specs.Checks.{sizeOk, countsOk, offsetsOk, passes1, passes2, passes3, passes4, passes5, passes6, passes7, refusal}
 use Rattle.script_file.specs.Program.{fileInputs, fileProgram, fileAccount, fileRun}
 use Rattle.view_fields.specs.Fields.{littleEndian, labelField, datumField, contentsField, endingNumber, resultField, kindByte, recordField}
 use Rattle.model.specs.State.{shown}
 use Rattle.view.specs.Layout.{slotField, recordFields, recordsShown, counts, final, viewLength, view}
 use Rattle.view.specs.Reading.{fileView}
 use Rattle.noninterference.specs.Alike.{legible, inputLabel, Hidden, Alike}
+use Rattle.file_sections.specs.Sections.{readLabels, inputsOf, labelBytesOf, labelOf, labelsOf, recordBytesOf}
+use Rattle.file_sections.specs.Checks.{every, recordsOk}
 
 -- L 2, C 1, N 13, S 20, K 2. Labels: public; ⟨player, True⟩, which is the clearance too. One sealed record, under ⟨player, True⟩,
 -- whose number's first byte is at 23. Code: LAB 1; BLOCK 9, 5 steps, 0 places; END; and the body, from 9 on: INPUT 0; OPEN; END.
@@ -65,7 +67,7 @@ pub record Computed : Type 0 where
   pub opens-9 : byte (fileView (file 9) 1) 118 ≡ 9
 
 pub computed : Computed
-unfolding file template publicView legible holds table implies flows join wellFormed readEntry u16 u32 operandBytes known size instrs fetch after popFrom asNumber asLabel asHandle asSealed asReference arity dropFrame operate plan failTo yield openSlot labelSlot writeSlot contentsOf outcome act inputs handles inputSlots perform step resume pay run runs startStore header labelBytes recordBytes codeBytes readLabels fileLabels labelAt sweep starts operandsOk instrOk mayBeLast codeOk every sizeOk countsOk offsetsOk recordsOk passes1 passes2 passes3 passes4 passes5 passes6 passes7 refusal fileInputs fileProgram fileAccount fileRun littleEndian labelField datumField contentsField endingNumber resultField kindByte recordField shown slotField recordFields recordsShown counts final viewLength view fileView
+unfolding file template publicView legible holds table implies flows join wellFormed readEntry u16 u32 operandBytes known size instrs fetch after popFrom asNumber asLabel asHandle asSealed asReference arity dropFrame operate plan failTo yield openSlot labelSlot writeSlot contentsOf outcome act inputs handles inputSlots perform step resume pay run runs startStore header labelBytesOf recordBytesOf codeBytes readLabels labelsOf labelOf sweep starts operandsOk instrOk mayBeLast codeOk every sizeOk countsOk offsetsOk recordsOk passes1 passes2 passes3 passes4 passes5 passes6 passes7 refusal inputsOf fileProgram fileAccount fileRun littleEndian labelField datumField contentsField endingNumber resultField kindByte recordField shown slotField recordFields recordsShown counts final viewLength view fileView
 computed =
     record {
       legible-7 = refl;

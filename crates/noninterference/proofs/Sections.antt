@@ -14,10 +14,11 @@ use Rattle.model.specs.Decoding.{byte, u16, u32}
 use Rattle.model.specs.Inputs.{kindOf, inputs}
 use Rattle.model.proofs.Start.{AlikeInputs}
 use Rattle.script_file.specs.declared.Header.{Header}
-use Rattle.script_file.specs.Sections.{header, labelBytes, recordBytes, codeBytes, readLabels, fileLabels, orNone, labelAt}
+use Rattle.script_file.specs.Sections.{header, labelBytes, recordBytes, codeBytes, fileLabels, labelAt}
 use Rattle.script_file.specs.Checks.{passes1, passes2, passes3, passes4, passes6}
 use Rattle.script_file.specs.Program.{fileInputs}
-use Rattle.script_file.proofs.Tests.{Each, every-each}
+use Rattle.file_sections.specs.Sections.{readLabels, orNone, inputsOf, labelBytesOf, labelOf, labelsOf, recordBytesOf}
+use Rattle.file_sections.proofs.Tests.{Each, every-each}
 use Rattle.script_file.proofs.Limits.{Placed, placed}
 use Rattle.noninterference.specs.Alike.{legible, recordAt, inputLabel, Hidden, Alike}
 
@@ -38,7 +39,7 @@ module _ (bs cs : List ℕ) (sized : length bs ≡ length cs) where
 
 -- byte q of the record section
 record-byte : (bs : List ℕ) (q : ℕ) → q < 6 * header bs .records .count → byte (recordBytes bs) q ≡ byte bs (header bs .records .offset + q)
-unfolding recordBytes
+unfolding recordBytesOf
 record-byte bs q lt =
     getD-take (6 * header bs .records .count) (drop (header bs .records .offset) bs) q 0 lt ∙ getD-drop (header bs .records .offset) bs q 0
 
@@ -88,14 +89,14 @@ module _ (bs cs : List ℕ) (i : ℕ) (A : Alike bs cs i) (lb : legible bs i ≡
       )
 
   pub same-labels : fileLabels bs ≡ fileLabels cs
-  unfolding fileLabels labelBytes
+  unfolding labelsOf labelBytesOf
   same-labels =
       ap (readLabels (header bs .labels .count))
       (same-slice bs cs (A .sized) 16 (header bs .records .offset - 16) (λ p _ lt. front p (omega (arith, ordered .records))))
       ∙ ap (λ (h : Header). readLabels (h .labels .count) (take (h .records .offset - 16) (drop 16 cs))) same-header
 
   pub same-label : labelAt bs ≡ labelAt cs
-  unfolding labelAt
+  unfolding labelOf
   same-label = ap {B = ℕ → Label} (λ (o : Option (List Label)) (p : ℕ). getD (orNone o) p (record { secrecy = 0; integrity = 0 })) same-labels
 
   pub same-code : codeBytes bs ≡ codeBytes cs
@@ -147,7 +148,7 @@ module _ (bs cs : List ℕ) (i : ℕ) (A : Alike bs cs i) (lb : legible bs i ≡
           (subst (λ (x : ℕ). flows (labelAt bs x) (labelAt bs i) ≡ true) (record-byte bs (6 * j + 1) (omega arith) ∙ ap (byte bs) (omega arith)) f))
 
   pub alike-inputs : AlikeInputs (λ l. flows l (labelAt bs i)) (fileInputs bs) (fileInputs cs)
-  unfolding fileInputs
+  unfolding inputsOf
   alike-inputs =
       subst₂ (λ (ls : ℕ → Label) (n : ℕ). AlikeInputs (λ l. flows l (labelAt bs i)) (fileInputs bs) (inputs ls (recordBytes cs) n 0))
       same-label (ap (λ (h : Header). h .records .count) same-header) (alike-from (header bs .records .count) 0 (omega arith))

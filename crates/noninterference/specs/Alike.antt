@@ -12,9 +12,10 @@ use Rattle.labels.specs.Order.{flows}
 use Rattle.labels.specs.declared.Label.{Label}
 use Rattle.model.specs.Decoding.{byte}
 use Rattle.script_file.specs.Sections.{header, labelAt}
-use Rattle.script_file.specs.Checks.{every, passes1, passes2, passes3, passes4, passes6}
+use Rattle.script_file.specs.Checks.{passes1, passes2, passes3, passes4, passes6}
 use Rattle.view.specs.Reading.{Reading}
 use Rattle.view.specs.declared.Answer.the-variants.{Refused, Viewed}
+use Rattle.file_sections.specs.Checks.{every}
 
 -- none of 1 to 4, 6 and 8 applies. Any of them may apply where another number is returned, so each is a test of its own.
 unfoldable pub legible : List ℕ → ℕ → Bool

@@ -16,16 +16,18 @@ use Rattle.model.specs.declared.Finished.{Finished}
 use Rattle.model.specs.Words.{labelIn}
 use Rattle.operands.specs.Program.{count, program}
 use Rattle.store.specs.Slots.{parts, slots}
-use Rattle.script_file.specs.Sections.{header, recordBytes, codeBytes, fileLabels, orNone, labelAt}
+use Rattle.script_file.specs.Sections.{header, recordBytes, codeBytes, fileLabels, labelAt}
 use Rattle.script_file.specs.Checks.{refusal}
 use Rattle.model.proofs.Tests.{cond-one}
-use Rattle.script_file.specs.Loading.{refusalNumber, loaded, tables, labelWords, wordsAfter}
+use Rattle.script_file.specs.Loading.{refusalNumber, loaded, wordsAfter}
 use Rattle.script_file.specs.Program.{fileInputs, fileAccount, fileRun}
 use Rattle.script_file.specs.declared.Header.{Header}
 use Rattle.script_file.specs.declared.Refusal.{Refusal}
 use Rattle.script_file.specs.declared.Loaded.the-variants.{Refused as Stopped, File}
 use Rattle.script_file.proofs.Limits.{Counted, Placed}
-use Rattle.script_file.proofs.Labels.{length-padded}
+use Rattle.file_sections.specs.Sections.{orNone, inputsOf}
+use Rattle.file_sections.specs.Words.{tables, labelWords}
+use Rattle.file_sections.proofs.Labels.{length-padded}
 use Rattle.script_file.proofs.Answers.{number-within, refused-number, file-number, file-header, loads, within-limits, in-place}
 use Rattle.script_file.proofs.Findings.{recordsIn, codeIn, records-in, code-in}
 use Rattle.view.specs.Layout.{view}
@@ -84,7 +86,7 @@ module _ (bs : List ℕ) (h : Header) (ws : List ℕ) (w : Loads bs h ws) where
   pub run-is : (l c : Label) (σ : Store) → l ≡ labelIn ws 0 → c ≡ labelIn ws 1
       → σ ≡ startStore (inputSlots (inputs (labelIn ws) (recordsIn h bs) (count (recordsIn h bs)) 0))
       → runs (program (codeIn h bs) ws (recordsIn h bs)) startControl (startAccount l c (h .steps) (count (recordsIn h bs)) (h .places)) σ ≡ fileRun bs
-  unfolding fileRun fileAccount fileInputs
+  unfolding fileRun fileAccount inputsOf
   run-is l c σ el ec es =
       rw (el, ec, es, records-are, code-is, w .numbers, w .labels, program-is bs (w .none), labels-are bs (w .none), records-counted bs (w .none))
 

@@ -6,9 +6,9 @@ use Prim.Native.Nat.{ℕ, suc, _≤_}
 use native.Mathlib.Omega.{arith}
 use lib.Dec.{eqb·suc-zero}
 use lib.ListN.{length, getD}
-use Rattle.script_file.specs.Sections.{header, fileLabels, orNone}
+use Rattle.script_file.specs.Sections.{header, fileLabels}
 use Rattle.script_file.specs.Checks.{passes1, passes2, passes3, passes4, passes5, passes6, passes7, lowest, refusal}
-use Rattle.script_file.specs.Loading.{refusalNumber, refusals, answer, loaded, labelWords, wordsAfter}
+use Rattle.script_file.specs.Loading.{refusalNumber, refusals, answer, loaded, wordsAfter}
 use Rattle.script_file.specs.declared.Header.{Header}
 use Rattle.script_file.specs.declared.Refusal.{Refusal}
 use Rattle.script_file.specs.declared.Refusal.the-variants.{Size, Counts, Offsets, Labels, Start, Records, Code}
@@ -16,6 +16,8 @@ use Rattle.script_file.specs.declared.Loaded.{Loaded}
 use Rattle.script_file.specs.declared.Loaded.the-variants.{Refused, File}
 use Rattle.script_file.proofs.Tests.{lowest-each}
 use Rattle.script_file.proofs.Limits.{Counted, counted, Placed, placed}
+use Rattle.file_sections.specs.Sections.{orNone}
+use Rattle.file_sections.specs.Words.{labelWords}
 
 -- the number of an answer, 0 where nothing stops the file
 abbrev numberOf : Loaded → ℕ

@@ -8,14 +8,15 @@ use lib.ListN.{length, take, drop}
 use borrow.Rule.Slice.PartAt.{part-to-end}
 use Rattle.labels.specs.Order.{flows}
 use Rattle.model.specs.Words.{labelIn}
-use Rattle.script_file.specs.Sections.{header, labelBytes, recordBytes, codeBytes, readLabels, fileLabels, labelAt, orNone}
+use Rattle.script_file.specs.Sections.{header, labelBytes, recordBytes, codeBytes, fileLabels, labelAt}
 use Rattle.code_check.specs.Sweep.{codeOk}
-use Rattle.script_file.specs.Checks.{sizeOk, countsOk, offsetsOk, recordsOk, passes1, passes2, passes3, passes4, passes5, passes6, passes7, refusal}
-use Rattle.script_file.specs.Loading.{labelWords}
-use Rattle.script_file.specs.Parts.{tableOf}
+use Rattle.script_file.specs.Checks.{sizeOk, countsOk, offsetsOk, passes1, passes2, passes3, passes4, passes5, passes6, passes7, refusal}
+use Rattle.file_sections.specs.Sections.{readLabels, orNone, labelBytesOf, labelOf, labelsOf, recordBytesOf}
+use Rattle.file_sections.specs.Checks.{recordsOk}
+use Rattle.file_sections.specs.Words.{labelWords, tableOf}
+use Rattle.file_sections.specs.declared.Table.{Table}
+use Rattle.file_sections.proofs.Labels.{words-hold, words-hold-any, labels-few}
 use Rattle.script_file.specs.declared.Header.{Header}
-use Rattle.script_file.specs.declared.Table.{Table}
-use Rattle.script_file.proofs.Labels.{words-hold, words-hold-any, labels-few}
 use Rattle.script_file.proofs.Answers.{within-limits}
 
 -- the parts that the code takes of a file, where the header says
@@ -40,11 +41,11 @@ module _ (bs : List ℕ) where
     finds3 e = ap (λ (g : Header). offsetsOk g (length bs)) (sym is) ∙ e
 
     pub file-table : (t : Table) → t ≡ tableOf (readLabels (h .labels .count) (take (h .records .offset - 16) (drop 16 bs))) → t ≡ tableOf (fileLabels bs)
-    unfolding fileLabels labelBytes
+    unfolding labelsOf labelBytesOf
     file-table t e = e ∙ ap (λ (g : Header). tableOf (readLabels (g .labels .count) (take (g .records .offset - 16) (drop 16 bs)))) is
 
     pub records-in : h .code .offset ≡ h .records .offset + 6 * h .records .count → recordsIn h bs ≡ recordBytes bs
-    unfolding recordBytes
+    unfolding recordBytesOf
     records-in e =
         let count : h .code .offset - h .records .offset ≡ 6 * h .records .count = omega arith in
         ap (λ (n : ℕ). take n (drop (h .records .offset) bs)) count
@@ -73,7 +74,7 @@ module _ (bs : List ℕ) where
     label-in i e = sym e ∙ ap (λ (u : Table). labelIn (u .words) i) (sym is)
 
     pub finds5 : {b : Bool} → flows (labelIn (t .words) 0) (labelIn (t .words) 1) ≡ b → passes5 bs ≡ b
-    unfolding passes5 labelAt
+    unfolding passes5 labelOf
     finds5 e =
         ap₂ flows
         (label-in 0 (words-hold (orNone (fileLabels bs)) 0 (omega arith)))
@@ -82,7 +83,7 @@ module _ (bs : List ℕ) where
 
 -- The words of a file that is not refused hold its labels, at any index.
 pub words-are-labels : (bs : List ℕ) → refusal bs ≡ 0 → (i : ℕ) → labelIn (labelWords (orNone (fileLabels bs))) i ≡ labelAt bs i
-unfolding labelAt fileLabels
+unfolding labelOf labelsOf
 words-are-labels bs none i =
     let few = labels-few (header bs .labels .count) (labelBytes bs) in
     let most = within-limits bs none .labels in

@@ -5,7 +5,7 @@ use Prim.Native.Nat.{ℕ, _+_, _*_, _≤_}
 use borrow.Author.Tests.{leb-true, eqb-true}
 use Rattle.script_file.specs.Checks.{countsOk, offsetsOk}
 use Rattle.script_file.specs.declared.Header.{Header}
-use Rattle.script_file.proofs.Tests.{every-each}
+use Rattle.file_sections.proofs.Tests.{every-each}
 
 pub record Counted (h : Header) : Type 0 where
   pub labels : h .labels .count ≤ 32

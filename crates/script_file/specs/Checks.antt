@@ -1,21 +1,14 @@
 -- Stopped by the file: checks 1 to 7. "The lowest number that applies is returned."
-use mathlib.Core.Bool.{Bool, true, false, _&&_}
+use mathlib.Core.Bool.{Bool, true, false}
 use mathlib.Core.List.{List, [], _∷_}
-use mathlib.Core.Option.{Option, none, some}
-use Prim.Native.Nat.{ℕ, zero, suc, _+_, _*_}
-use lib.Dec.{leb, ltb, eqb}
+use Prim.Native.Nat.{ℕ, suc, _+_, _*_}
+use lib.Dec.{leb, eqb}
 use lib.ListN.{length}
 use Rattle.labels.specs.Order.{flows}
-use Rattle.labels.specs.declared.Label.{Label}
-use Rattle.model.specs.Decoding.{byte}
-use Rattle.script_file.specs.Sections.{header, recordBytes, codeBytes, fileLabels, labelAt}
+use Rattle.file_sections.specs.Checks.{every, labelsPass, recordsPass}
+use Rattle.script_file.specs.Sections.{header, sections, codeBytes, labelAt}
 use Rattle.code_check.specs.Sweep.{codeOk}
 use Rattle.script_file.specs.declared.Header.{Header}
-
--- every test of a list holds
-unfoldable pub every : List Bool → Bool
-every [] = true
-every (t ∷ ts) = t && every ts
 
 -- 1: "Under 16 bytes or over 65,535."
 unfoldable pub sizeOk : ℕ → Bool
@@ -36,16 +29,6 @@ offsetsOk h n =
     (eqb (h .labels .offset) 16 ∷ leb 16 (h .records .offset)
     ∷ eqb (h .code .offset) (h .records .offset + 6 * h .records .count) ∷ eqb n (h .code .offset + h .code .count) ∷ [])
 
--- 4: "A label entry malformed or cut, or the L entries don't end at the records offset."
-abbrev pub present : Option (List Label) → Bool
-present none = false
-present (some ls) = true
-
--- 6: "A record's kind above 1 or label index L or more", of n records from byte i on
-unfoldable pub recordsOk : ℕ → List ℕ → ℕ → ℕ → Bool
-recordsOk l bs zero i = true
-recordsOk l bs (suc n) i = (leb (byte bs i) 1 && ltb (byte bs (i + 1)) l) && recordsOk l bs n (i + 6)
-
 -- what each check finds in a file, whatever the others find: true where it does not apply
 unfoldable pub passes1 : List ℕ → Bool
 passes1 bs = sizeOk (length bs)
@@ -57,14 +40,14 @@ unfoldable pub passes3 : List ℕ → Bool
 passes3 bs = offsetsOk (header bs) (length bs)
 
 unfoldable pub passes4 : List ℕ → Bool
-passes4 bs = present (fileLabels bs)
+passes4 bs = labelsPass (sections bs) bs
 
 -- 5: "Label 0 doesn't flow to label 1."
 unfoldable pub passes5 : List ℕ → Bool
 passes5 bs = flows (labelAt bs 0) (labelAt bs 1)
 
 unfoldable pub passes6 : List ℕ → Bool
-passes6 bs = recordsOk (header bs .labels .count) (recordBytes bs) (header bs .records .count) 0
+passes6 bs = recordsPass (sections bs) bs
 
 unfoldable pub passes7 : List ℕ → Bool
 passes7 bs = codeOk (header bs .labels .count) (header bs .records .count) (codeBytes bs)

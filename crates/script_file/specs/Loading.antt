@@ -4,8 +4,9 @@ use mathlib.Core.List.{List, [], _∷_}
 use Prim.Native.Nat.{ℕ, zero, suc}
 use lib.Dec.{eqb}
 use lib.ListN.{getD}
-use Rattle.labels.specs.declared.Label.{Label}
-use Rattle.script_file.specs.Sections.{header, fileLabels, orNone}
+use Rattle.file_sections.specs.Sections.{orNone}
+use Rattle.file_sections.specs.Words.{labelWords}
+use Rattle.script_file.specs.Sections.{header, fileLabels}
 use Rattle.script_file.specs.Checks.{refusal}
 use Rattle.script_file.specs.declared.Header.{Header}
 use Rattle.script_file.specs.declared.Refusal.{Refusal}
@@ -34,20 +35,6 @@ answer (suc n) h = Refused (getD refusals n Code)
 
 unfoldable pub loaded : List ℕ → Loaded
 loaded bs = answer (refusal bs) (header bs)
-
--- labels as words: label i at words 2 i and 2 i + 1
-abbrev pub tables : List Label → List ℕ
-tables [] = []
-tables (l ∷ ls) = l .secrecy ∷ (l .integrity ∷ tables ls)
-
--- n words of a list: 0 behind its end
-abbrev pub padded : ℕ → List ℕ → List ℕ
-padded zero xs = []
-padded (suc n) [] = 0 ∷ padded n []
-padded (suc n) (x ∷ xs) = x ∷ padded n xs
-
-unfoldable pub labelWords : List Label → List ℕ
-labelWords ls = padded 64 (tables ls)
 
 -- what stands in the lent words afterwards: the labels of a file that loads, else what stood there
 unfoldable pub wordsAfter : List ℕ → List ℕ → List ℕ

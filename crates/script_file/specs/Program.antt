@@ -3,12 +3,13 @@ use mathlib.Core.List.{List}
 use Prim.Native.Nat.{ℕ}
 use Rattle.model.specs.State.{Program, Outcome}
 use Rattle.model.specs.declared.Account.{Account}
-use Rattle.model.specs.Inputs.{Input, inputs, inputSlots}
+use Rattle.model.specs.Inputs.{Input, inputSlots}
 use Rattle.model.specs.Running.{runs, programOf, startControl, startAccount, startStore}
-use Rattle.script_file.specs.Sections.{header, recordBytes, codeBytes, labelAt}
+use Rattle.file_sections.specs.Sections.{inputsOf}
+use Rattle.script_file.specs.Sections.{header, sections, codeBytes, labelAt}
 
-unfoldable pub fileInputs : List ℕ → List Input
-fileInputs bs = inputs (labelAt bs) (recordBytes bs) (header bs .records .count) 0
+abbrev pub fileInputs : List ℕ → List Input
+fileInputs bs = inputsOf (sections bs) bs
 
 unfoldable pub fileProgram : List ℕ → Program
 fileProgram bs = programOf (codeBytes bs) (labelAt bs) (fileInputs bs)

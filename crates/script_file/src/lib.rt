@@ -1,22 +1,13 @@
 // A script file: its header, and the checks that stop it.
 ghost use mathlib.Core.Path.{_≡_};
-ghost use mathlib.Core.Option.{none};
-ghost use Prim.Native.Nat.{_≤_, _<_, _^_};
 ghost use Rattle.labels.specs.Order.{flows};
-ghost use Rattle.model.specs.Decoding.{u16};
-ghost use Rattle.script_file.specs.Sections.{section, header, readLabels};
-ghost use Rattle.script_file.specs.Checks.{sizeOk, countsOk, offsetsOk, recordsOk};
+ghost use Rattle.script_file.specs.Sections.{header};
+ghost use Rattle.script_file.specs.Checks.{sizeOk, countsOk, offsetsOk};
 ghost use Rattle.script_file.specs.Loading.{refusalNumber, loaded, wordsAfter};
 ghost use Rattle.model.specs.Words.{labelIn};
-ghost use Rattle.script_file.specs.Parts.{Short, Shorts, tableOf};
-use label_entries::Entry;
+ghost use Rattle.script_file.specs.Parts.{Shorts};
+use file_sections::Section;
 use labels::Label;
-
-// A section of the file: how many entries (of the code: bytes) it has, and where it starts.
-pub struct Section {
-    pub count: usize,
-    pub offset: usize,
-}
 
 // The eight numbers of the header.
 pub struct Header {
@@ -59,40 +50,17 @@ pub fn number(r: Refusal) -> u64
     }
 }
 
-// The labels of a file: label i at words 2 i and 2 i + 1. Zeros where the section is malformed.
-struct Table {
-    whole: bool,
-    words: [u64; 64],
-}
-
 // ---- the header
-
-fn number_at(file: &[u8], i: usize) -> usize
-    requires { ⌜ i < 2 ^ 32 ⌝ }
-    ensures { λ r. ⌜ (r ≡ u16 (now (file .entry)) i) × (r < 2 ^ 16) ⌝ }
-{
-    decode::u16_at(file, i) as usize
-}
-
-fn section_at(file: &[u8], i: usize) -> Section
-    requires { ⌜ i < 16 ⌝ }
-    ensures { λ r. ⌜ (r ≡ section (now (file .entry)) i) × Short r ⌝ }
-{
-    Section {
-        count: number_at(file, i),
-        offset: number_at(file, i + 2),
-    }
-}
 
 fn read_header(file: &[u8]) -> Header
     ensures { λ r. ⌜ (r ≡ header (now (file .entry))) × Shorts r ⌝ }
 {
     Header {
-        labels: section_at(file, 0),
-        records: section_at(file, 4),
-        code: section_at(file, 8),
-        steps: number_at(file, 12),
-        places: number_at(file, 14),
+        labels: file_sections::section_at(file, 0),
+        records: file_sections::section_at(file, 4),
+        code: file_sections::section_at(file, 8),
+        steps: file_sections::number_at(file, 12),
+        places: file_sections::number_at(file, 14),
     }
 }
 
@@ -157,39 +125,7 @@ fn offsets_ok(h: Header, n: usize) -> bool
     n == code.offset + code.count
 }
 
-// ---- labels
-
-// Check 4: `count` entries, and no byte behind them.
-fn read_labels(bytes: &[u8], count: usize) -> Table
-    requires { ⌜ count ≤ 32 ⌝ }
-    ensures { λ r. ⌜ r ≡ tableOf (readLabels count (now (bytes .entry))) ⌝ }
-{
-    let mut words = [0u64; 64];
-    let mut at: usize = 0;
-    let mut i: usize = 0;
-    while i < count {
-        let Entry::Read(l, k) = label_entries::read_entry(&bytes[at..]) else {
-            return no_labels();
-        };
-        words[2 * i] = l.secrecy;
-        words[2 * i + 1] = l.integrity;
-        at += k;
-        i += 1;
-    }
-    if at == bytes.len() {
-        return Table { whole: true, words };
-    }
-    no_labels()
-}
-
-fn no_labels() -> Table
-    ensures { λ r. ⌜ r ≡ tableOf none ⌝ }
-{
-    Table {
-        whole: false,
-        words: [0u64; 64],
-    }
-}
+// ---- the starting label
 
 // Check 5: label 0 flows to label 1.
 fn start_ok(words: [u64; 64]) -> bool
@@ -204,27 +140,6 @@ fn start_ok(words: [u64; 64]) -> bool
         integrity: words[3],
     };
     labels::flows(label, clearance)
-}
-
-// ---- input records
-
-// Check 6: each record's kind is 0 or 1, and its label one of the file's.
-fn records_ok(bytes: &[u8], count: usize, labels: usize) -> bool
-    requires { ⌜ count ≤ 64 ⌝ }
-    ensures { λ r. ⌜ r ≡ recordsOk labels (now (bytes .entry)) count 0 ⌝ }
-{
-    let mut i: usize = 0;
-    while i < count {
-        let at = 6 * i;
-        if 1 < decode::byte_at(bytes, at) {
-            return false;
-        }
-        if labels <= decode::index_at(bytes, at + 1) {
-            return false;
-        }
-        i += 1;
-    }
-    true
 }
 
 // ---- the file
@@ -250,7 +165,7 @@ pub fn load(file: &[u8], labels: &mut [u64; 64]) -> Loaded
     let code = h.code;
     let records_at = records.offset;
     let code_at = code.offset;
-    let table = read_labels(&file[16..records_at], listed.count);
+    let table = file_sections::read_labels(&file[16..records_at], listed.count);
     if !table.whole {
         return Loaded::Refused(Refusal::Labels);
     }
@@ -258,7 +173,7 @@ pub fn load(file: &[u8], labels: &mut [u64; 64]) -> Loaded
     if !start_ok(words) {
         return Loaded::Refused(Refusal::Start);
     }
-    if !records_ok(&file[records_at..code_at], records.count, listed.count) {
+    if !file_sections::records_ok(&file[records_at..code_at], records.count, listed.count) {
         return Loaded::Refused(Refusal::Records);
     }
     if !code_check::code_ok(&file[code_at..], listed.count, records.count) {

@@ -8,7 +8,7 @@ use lib.ListN.{drop}
 use borrow.Author.Tests.{le-leb, lt-leb}
 use Rattle.script_file.specs.Checks.{countsOk}
 use Rattle.script_file.specs.declared.Header.{Header}
-use Rattle.script_file.proofs.Tests.{Decide, pass, fail, last}
+use Rattle.file_sections.proofs.Tests.{Decide, pass, fail, last}
 use Rattle.script_file.proofs.counts_ok.Statement.{statement}
 use Rattle.script_file.proofs.counts_ok.Tie as tie
 

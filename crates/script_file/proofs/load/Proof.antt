@@ -8,10 +8,10 @@ use borrow.Author.Tests.{not-true, not-false}
 use borrow.Rule.Slice.PartAt.{part-to-end}
 use Rattle.script_file.specs.Checks.{passes1, passes2, passes3, passes4, passes5, passes6, passes7, refusal}
 use Rattle.script_file.specs.Sections.{header, fileLabels}
-use Rattle.script_file.specs.Parts.{tableOf}
+use Rattle.file_sections.specs.Words.{tableOf}
+use Rattle.file_sections.specs.declared.Table.{Table}
 use Rattle.script_file.specs.declared.Header.{Header}
 use Rattle.script_file.specs.declared.Loaded.the-variants.{File}
-use Rattle.script_file.specs.declared.Table.{Table}
 use Rattle.script_file.proofs.Tests.{Comes, past, stopped}
 use Rattle.script_file.proofs.Limits.{Counted, Placed, counted, placed}
 use Rattle.script_file.proofs.Answers.{checks, refuses, loads}

@@ -8,7 +8,7 @@ use lib.ListN.{drop}
 use borrow.Author.Tests.{le-leb, lt-leb, eq-eqb, ne-eqb}
 use Rattle.script_file.specs.Checks.{offsetsOk}
 use Rattle.script_file.specs.declared.Header.{Header}
-use Rattle.script_file.proofs.Tests.{Decide, pass, fail, last}
+use Rattle.file_sections.proofs.Tests.{Decide, pass, fail, last}
 use borrow.Author.Needs.{needs}
 use Rattle.script_file.proofs.offsets_ok.Statement.{statement}
 use Rattle.script_file.proofs.offsets_ok.Tie as tie

@@ -2,7 +2,7 @@
 use mathlib.Core.Path.{refl}
 use borrow.Author.Tests.{le-leb, lt-leb}
 use Rattle.script_file.specs.Checks.{sizeOk}
-use Rattle.script_file.proofs.Tests.{pass, fail, last}
+use Rattle.file_sections.proofs.Tests.{pass, fail, last}
 use Rattle.script_file.proofs.size_ok.Statement.{statement}
 use Rattle.script_file.proofs.size_ok.Tie as tie
 

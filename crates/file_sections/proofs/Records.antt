@@ -5,7 +5,7 @@ use mathlib.Core.Path.{_≡_}
 use Prim.Native.Nat.{ℕ, suc, _+_, _≤_, _<_}
 use borrow.Author.Tests.{lt-ltb, le-ltb, le-leb, lt-leb}
 use Rattle.model.specs.Decoding.{byte}
-use Rattle.script_file.specs.Checks.{recordsOk}
+use Rattle.file_sections.specs.Checks.{recordsOk}
 
 module _ (l : ℕ) (bs : List ℕ) (n i : ℕ) where
   pub kind-stops : 1 < byte bs i → recordsOk l bs (suc n) i ≡ false

@@ -1,14 +1,14 @@
--- `script_file::records_ok` meets its contract: what is left of the records decides. Assumes nothing.
+-- `file_sections::records_ok` meets its contract: what is left of the records decides. Assumes nothing.
 use mathlib.Core.List.{List}
 use mathlib.Core.Path.{_≡_, sym, ap, _∙_}
 use Prim.Native.Nat.{ℕ, suc, _+_, _-_, _*_, _≤_}
 use native.Mathlib.Omega.{arith}
 use Rattle.model.specs.Decoding.{byte}
-use Rattle.script_file.specs.Checks.{recordsOk}
-use Rattle.script_file.proofs.Records.{kind-stops, label-stops, next-record}
+use Rattle.file_sections.specs.Checks.{recordsOk}
+use Rattle.file_sections.proofs.Records.{kind-stops, label-stops, next-record}
 use borrow.Author.Needs.{needs}
-use Rattle.script_file.proofs.records_ok.Statement.{statement}
-use Rattle.script_file.proofs.records_ok.Tie as tie
+use Rattle.file_sections.proofs.records_ok.Statement.{statement}
+use Rattle.file_sections.proofs.records_ok.Tie as tie
 
 abbrev Inv-loop : tie.InvT-loop
 Inv-loop bytes count labels i₀ i = (i ≤ count) × (recordsOk labels bytes count 0 ≡ recordsOk labels bytes (count - i) (6 * i))

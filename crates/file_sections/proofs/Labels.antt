@@ -13,10 +13,9 @@ use Rattle.labels.specs.declared.Label.{Label}
 use Rattle.label_entries.specs.declared.Entry.{Entry}
 use Rattle.label_entries.specs.declared.Entry.the-variants.{Read, Malformed}
 use Rattle.model.specs.Words.{labelIn}
-use Rattle.script_file.specs.Sections.{consLabel, labelsAfter, readLabels, orNone}
-use Rattle.script_file.specs.Loading.{tables, padded, labelWords}
-use Rattle.script_file.specs.Parts.{tableOf}
-use Rattle.script_file.specs.declared.Table.{Table}
+use Rattle.file_sections.specs.Sections.{consLabel, labelsAfter, readLabels, orNone}
+use Rattle.file_sections.specs.Words.{tables, padded, labelWords, tableOf}
+use Rattle.file_sections.specs.declared.Table.{Table}
 
 -- ── filling the words ──
 

@@ -1,4 +1,4 @@
--- `script_file::read_labels` meets its contract: what is left of the section makes the rest of the words. Assumes nothing.
+-- `file_sections::read_labels` meets its contract: what is left of the section makes the rest of the words. Assumes nothing.
 use mathlib.Core.List.{List, []}
 use mathlib.Core.Path.{_≡_, sym, ap, _∙_}
 use Prim.Native.Nat.{ℕ, suc, _+_, _-_, _≤_, _<_}
@@ -9,14 +9,13 @@ use borrow.Rule.Slice.PartAt.{part-to-end}
 use Rattle.labels.specs.declared.Label.{Label}
 use Rattle.label_entries.specs.Entries.{readEntry}
 use Rattle.label_entries.specs.declared.Entry.the-variants.{Read}
-use Rattle.script_file.specs.Sections.{readLabels}
-use Rattle.script_file.specs.Loading.{labelWords}
-use Rattle.script_file.specs.Parts.{tableOf}
+use Rattle.file_sections.specs.Sections.{readLabels}
+use Rattle.file_sections.specs.Words.{labelWords, tableOf}
+use Rattle.file_sections.proofs.Labels.{putLabel, tableFrom, table-start, entry-read, entry-malformed, labels-end, bytes-left}
 use Rattle.label_entries.proofs.RoundTrip.{read-within}
-use Rattle.script_file.proofs.Labels.{putLabel, tableFrom, table-start, entry-read, entry-malformed, labels-end, bytes-left}
 use borrow.Author.Needs.{needs}
-use Rattle.script_file.proofs.read_labels.Statement.{statement}
-use Rattle.script_file.proofs.read_labels.Tie as tie
+use Rattle.file_sections.proofs.read_labels.Statement.{statement}
+use Rattle.file_sections.proofs.read_labels.Tie as tie
 
 abbrev Inv-loop : tie.InvT-loop
 Inv-loop bytes count words₀ at₀ i₀ words at i = (i ≤ count) × (at ≤ length bytes) × (tableOf (readLabels count bytes) ≡ tableFrom i words (readLabels (count - i) (drop at bytes)))

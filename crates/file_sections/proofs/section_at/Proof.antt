@@ -1,7 +1,7 @@
--- `script_file::section_at` meets its contract. Assumes nothing.
+-- `file_sections::section_at` meets its contract. Assumes nothing.
 use borrow.Author.Needs.{needs}
-use Rattle.script_file.proofs.section_at.Statement.{statement}
-use Rattle.script_file.proofs.section_at.Tie as tie
+use Rattle.file_sections.proofs.section_at.Statement.{statement}
+use Rattle.file_sections.proofs.section_at.Tie as tie
 
 returns : tie.Need-returns
 returns c =

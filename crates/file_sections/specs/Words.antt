@@ -1,0 +1,32 @@
+-- Labels as words, and what the functions that read a section share with each other.
+use mathlib.Core.List.{List, [], _∷_}
+use mathlib.Core.Option.{Option}
+use Prim.Native.Nat.{ℕ, zero, suc, _<_, _^_}
+use Rattle.labels.specs.declared.Label.{Label}
+use Rattle.file_sections.specs.Sections.{orNone}
+use Rattle.file_sections.specs.Checks.{present}
+use Rattle.file_sections.specs.declared.Section.{Section}
+use Rattle.file_sections.specs.declared.Table.{Table}
+
+-- label i at words 2 i and 2 i + 1
+abbrev pub tables : List Label → List ℕ
+tables [] = []
+tables (l ∷ ls) = l .secrecy ∷ (l .integrity ∷ tables ls)
+
+-- n words of a list: 0 behind its end
+abbrev pub padded : ℕ → List ℕ → List ℕ
+padded zero xs = []
+padded (suc n) [] = 0 ∷ padded n []
+padded (suc n) (x ∷ xs) = x ∷ padded n xs
+
+unfoldable pub labelWords : List Label → List ℕ
+labelWords ls = padded 64 (tables ls)
+
+-- the labels that a section gives, none where it is malformed
+abbrev pub tableOf : Option (List Label) → Table
+tableOf o = record { whole = present o; words = labelWords (orNone o) }
+
+-- a section's numbers are 16 bits wide
+pub record Short (s : Section) : Type 0 where
+  pub count : s .count < 2 ^ 16
+  pub offset : s .offset < 2 ^ 16
