@@ -10,10 +10,10 @@ use Rattle.model.specs.Operands.{popFrom, asNumber, asLabel, asHandle, asSealed
 use Rattle.model.specs.Inputs.{inputs, handles, inputSlots}
 use Rattle.model.specs.Effects.{failTo, yield, openSlot, labelSlot, writeSlot, contentsOf, outcome, act}
 use Rattle.model.specs.Running.{perform, step, resume, pay, run, runs, startStore}
-use Rattle.script_file.specs.Sections.{header, labelBytes, recordBytes, codeBytes, fileLabels, labelAt}
+use Rattle.script_file.specs.Sections.{header, codeBytes}
 use Rattle.code_check.specs.Sweep.{sweep, starts, operandsOk, instrOk, mayBeLast, codeOk}
 use Rattle.script_file.specs.Checks.{sizeOk, countsOk, offsetsOk, passes1, passes2, passes3, passes4, passes5, passes6, passes7, refusal}
-use Rattle.script_file.specs.Program.{fileInputs, fileProgram, fileAccount, fileRun}
+use Rattle.script_file.specs.Program.{fileProgram, fileAccount, fileRun}
 use Rattle.labels.specs.Cases.{allHold}
 use Rattle.view_fields.specs.Fields.{littleEndian, labelField, datumField, contentsField, endingNumber, resultField, kindByte, recordField}
 use Rattle.model.specs.State.{shown}

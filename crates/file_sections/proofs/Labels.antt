@@ -13,7 +13,7 @@ use Rattle.labels.specs.declared.Label.{Label}
 use Rattle.label_entries.specs.declared.Entry.{Entry}
 use Rattle.label_entries.specs.declared.Entry.the-variants.{Read, Malformed}
 use Rattle.model.specs.Words.{labelIn}
-use Rattle.file_sections.specs.Sections.{consLabel, labelsAfter, readLabels, orNone}
+use Rattle.file_sections.specs.Sections.{Sections, labelBytesOf, consLabel, labelsAfter, readLabels, labelsOf, labelOf, orNone}
 use Rattle.file_sections.specs.Words.{tables, padded, labelWords, tableOf}
 use Rattle.file_sections.specs.declared.Table.{Table}
 
@@ -115,7 +115,7 @@ after-few : (n : ℕ) (rest : ℕ → Option (List Label)) → ((k : ℕ) → le
 after-few n rest few (Read l k) = cons-few n l (rest k) (few k)
 after-few n rest few Malformed = omega arith
 
-pub labels-few : (n : ℕ) (bs : List ℕ) → length (orNone (readLabels n bs)) ≤ n
+labels-few : (n : ℕ) (bs : List ℕ) → length (orNone (readLabels n bs)) ≤ n
 unfolding readLabels
 labels-few zero [] = omega arith
 labels-few zero (b ∷ bs) = omega arith
@@ -130,7 +130,7 @@ past-padded : (n : ℕ) (xs : List ℕ) (k : ℕ) → n ≤ k → getD (padded n
 past-padded n xs k h = List·getD-eq-default (padded n xs) 0 {n = k} (rw (length-padded n xs) h)
 
 -- Where there are at most 32 labels the words hold each, and ⟨False, False⟩ at any index past them.
-pub words-hold-any : (ls : List Label) → length ls ≤ 32 → (i : ℕ) → labelIn (labelWords ls) i ≡ getD ls i noLabel
+words-hold-any : (ls : List Label) → length ls ≤ 32 → (i : ℕ) → labelIn (labelWords ls) i ≡ getD ls i noLabel
 unfolding labelIn labelWords
 words-hold-any ls few i = by (ltb i 32) refl where
   by : (b : Bool) → ltb i 32 ≡ b → labelIn (padded 64 (tables ls)) i ≡ getD ls i noLabel
@@ -140,3 +140,10 @@ words-hold-any ls few i = by (ltb i 32) refl where
       ap₂ (λ (a b : ℕ). record { secrecy = a; integrity = b })
       (past-padded 64 (tables ls) (2 * i) (omega arith)) (past-padded 64 (tables ls) (2 * i + 1) (omega arith))
       ∙ sym (List·getD-eq-default ls noLabel {n = i} (omega arith))
+
+-- The words of a file with at most 32 labels hold its labels, at any index.
+pub words-are-labels : (s : Sections) (bs : List ℕ) → s .labels ≤ 32 → (i : ℕ) → labelIn (labelWords (orNone (labelsOf s bs))) i ≡ labelOf s bs i
+unfolding labelOf labelsOf
+words-are-labels s bs most i =
+    let few = labels-few (s .labels) (labelBytesOf s bs) in
+    words-hold-any (orNone (labelsOf s bs)) (omega arith) i

@@ -1,7 +1,9 @@
 -- Labels as words, and what the functions that read a section share with each other.
+use mathlib.Core.Bool.{cond}
 use mathlib.Core.List.{List, [], _∷_}
 use mathlib.Core.Option.{Option}
 use Prim.Native.Nat.{ℕ, zero, suc, _<_, _^_}
+use lib.Dec.{eqb}
 use Rattle.labels.specs.declared.Label.{Label}
 use Rattle.file_sections.specs.Sections.{orNone}
 use Rattle.file_sections.specs.Checks.{present}
@@ -21,6 +23,10 @@ padded (suc n) (x ∷ xs) = x ∷ padded n xs
 
 unfoldable pub labelWords : List Label → List ℕ
 labelWords ls = padded 64 (tables ls)
+
+-- what stands in lent words afterwards: the labels of a file that no check stops (its refusal is 0), else what stood there
+abbrev pub wordsLent : ℕ → Option (List Label) → List ℕ → List ℕ
+wordsLent refusal o ws = cond (eqb refusal 0) (labelWords (orNone o)) ws
 
 -- the labels that a section gives, none where it is malformed
 abbrev pub tableOf : Option (List Label) → Table

@@ -14,7 +14,7 @@ use Rattle.model.specs.Decoding.{byte, u16, u32}
 use Rattle.model.specs.Inputs.{kindOf, inputs}
 use Rattle.model.proofs.Start.{AlikeInputs}
 use Rattle.script_file.specs.declared.Header.{Header}
-use Rattle.script_file.specs.Sections.{header, labelBytes, recordBytes, codeBytes, fileLabels, labelAt}
+use Rattle.script_file.specs.Sections.{header, recordBytes, codeBytes, fileLabels, labelAt}
 use Rattle.script_file.specs.Checks.{passes1, passes2, passes3, passes4, passes6}
 use Rattle.script_file.specs.Program.{fileInputs}
 use Rattle.file_sections.specs.Sections.{readLabels, orNone, inputsOf, labelBytesOf, labelOf, labelsOf, recordBytesOf}

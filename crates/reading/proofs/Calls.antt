@@ -20,7 +20,7 @@ use Rattle.script_file.specs.Sections.{header, recordBytes, codeBytes, fileLabe
 use Rattle.script_file.specs.Checks.{refusal}
 use Rattle.model.proofs.Tests.{cond-one}
 use Rattle.script_file.specs.Loading.{refusalNumber, loaded, wordsAfter}
-use Rattle.script_file.specs.Program.{fileInputs, fileAccount, fileRun}
+use Rattle.script_file.specs.Program.{fileAccount, fileRun}
 use Rattle.script_file.specs.declared.Header.{Header}
 use Rattle.script_file.specs.declared.Refusal.{Refusal}
 use Rattle.script_file.specs.declared.Loaded.the-variants.{Refused as Stopped, File}

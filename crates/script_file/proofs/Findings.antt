@@ -8,14 +8,14 @@ use lib.ListN.{length, take, drop}
 use borrow.Rule.Slice.PartAt.{part-to-end}
 use Rattle.labels.specs.Order.{flows}
 use Rattle.model.specs.Words.{labelIn}
-use Rattle.script_file.specs.Sections.{header, labelBytes, recordBytes, codeBytes, fileLabels, labelAt}
+use Rattle.script_file.specs.Sections.{header, sections, recordBytes, codeBytes, fileLabels, labelAt}
 use Rattle.code_check.specs.Sweep.{codeOk}
 use Rattle.script_file.specs.Checks.{sizeOk, countsOk, offsetsOk, passes1, passes2, passes3, passes4, passes5, passes6, passes7, refusal}
 use Rattle.file_sections.specs.Sections.{readLabels, orNone, labelBytesOf, labelOf, labelsOf, recordBytesOf}
 use Rattle.file_sections.specs.Checks.{recordsOk}
 use Rattle.file_sections.specs.Words.{labelWords, tableOf}
 use Rattle.file_sections.specs.declared.Table.{Table}
-use Rattle.file_sections.proofs.Labels.{words-hold, words-hold-any, labels-few}
+use Rattle.file_sections.proofs.Labels.{words-hold, words-are-labels}
 use Rattle.script_file.specs.declared.Header.{Header}
 use Rattle.script_file.proofs.Answers.{within-limits}
 
@@ -82,9 +82,5 @@ module _ (bs : List ℕ) where
         ∙ e
 
 -- The words of a file that is not refused hold its labels, at any index.
-pub words-are-labels : (bs : List ℕ) → refusal bs ≡ 0 → (i : ℕ) → labelIn (labelWords (orNone (fileLabels bs))) i ≡ labelAt bs i
-unfolding labelOf labelsOf
-words-are-labels bs none i =
-    let few = labels-few (header bs .labels .count) (labelBytes bs) in
-    let most = within-limits bs none .labels in
-    words-hold-any (orNone (fileLabels bs)) (omega arith) i
+pub file-words : (bs : List ℕ) → refusal bs ≡ 0 → (i : ℕ) → labelIn (labelWords (orNone (fileLabels bs))) i ≡ labelAt bs i
+file-words bs none = words-are-labels (sections bs) bs (within-limits bs none .labels)

@@ -1,11 +1,8 @@
 -- What loading a file gives: the answer, and the words of the labels.
-use mathlib.Core.Bool.{cond}
 use mathlib.Core.List.{List, [], _∷_}
 use Prim.Native.Nat.{ℕ, zero, suc}
-use lib.Dec.{eqb}
 use lib.ListN.{getD}
-use Rattle.file_sections.specs.Sections.{orNone}
-use Rattle.file_sections.specs.Words.{labelWords}
+use Rattle.file_sections.specs.Words.{wordsLent}
 use Rattle.script_file.specs.Sections.{header, fileLabels}
 use Rattle.script_file.specs.Checks.{refusal}
 use Rattle.script_file.specs.declared.Header.{Header}
@@ -36,6 +33,6 @@ answer (suc n) h = Refused (getD refusals n Code)
 unfoldable pub loaded : List ℕ → Loaded
 loaded bs = answer (refusal bs) (header bs)
 
--- what stands in the lent words afterwards: the labels of a file that loads, else what stood there
+-- what stands in the lent words afterwards
 unfoldable pub wordsAfter : List ℕ → List ℕ → List ℕ
-wordsAfter bs ws = cond (eqb (refusal bs) 0) (labelWords (orNone (fileLabels bs))) ws
+wordsAfter bs ws = wordsLent (refusal bs) (fileLabels bs) ws
