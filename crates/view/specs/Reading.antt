@@ -32,9 +32,10 @@ show v buffer =
     (record { answer = Viewed (length v); buffer = v ++ drop (length v) buffer })
     (refuse 9 buffer)
 
--- 8: the reading label's index is L or more
+-- What a read comes to, of a file whose first check that applies is r (0 where none does) and that has l labels, by the
+-- label with index i, whose view is v. 8: the reading label's index is L or more.
+abbrev pub answered : ℕ → ℕ → List ℕ → ℕ → List ℕ → Reading
+answered r l v i buffer = cond (eqb r 0) (cond (ltb i l) (show v buffer) (refuse 8 buffer)) (refuse r buffer)
+
 unfoldable pub reading : List ℕ → ℕ → List ℕ → Reading
-reading bs i buffer =
-    cond (eqb (refusal bs) 0)
-    (cond (ltb i (header bs .labels .count)) (show (fileView bs i) buffer) (refuse 8 buffer))
-    (refuse (refusal bs) buffer)
+reading bs i buffer = answered (refusal bs) (header bs .labels .count) (fileView bs i) i buffer

@@ -1,0 +1,35 @@
+-- The views of a day, and reading a day for a label into a buffer.
+use mathlib.Core.Bool.{Bool}
+use mathlib.Core.List.{List, [], _∷_, _++_}
+use Prim.Native.Nat.{ℕ, _+_}
+use lib.ListN.{replicate}
+use Rattle.labels.specs.Order.{flows}
+use Rattle.labels.specs.declared.Label.{Label}
+use Rattle.view_fields.specs.Fields.{labelWidth, valueWidth, littleEndian}
+use Rattle.view.specs.Layout.{recordsAt, view}
+use Rattle.view.specs.Reading.{Reading, answered}
+use Rattle.day_file.specs.Sections.{dayHeader, dayLabel}
+use Rattle.day_file.specs.Checks.{dayRefusal}
+use Rattle.day.specs.Running.{Turn, skipped, ran, dayTurns}
+
+-- "Its view is 62 bytes with ending 4 (skipped ...), shown to all, both length fields, and the rest 0."
+unfoldable pub skippedView : List ℕ
+skippedView =
+    littleEndian 2 4 ++ replicate 6 0 ++ littleEndian 2 recordsAt ++ littleEndian 2 recordsAt
+    ++ replicate (valueWidth + labelWidth + labelWidth) 0
+
+unfoldable pub turnView : (Label → Bool) → Turn → List ℕ
+turnView Reads skipped = skippedView
+turnView Reads (ran s o) = view Reads s o
+
+-- "There is one view per job, laid end to end"
+unfoldable pub turnViews : (Label → Bool) → List Turn → List ℕ
+turnViews Reads [] = []
+turnViews Reads (t ∷ ts) = turnView Reads t ++ turnViews Reads ts
+
+unfoldable pub dayView : List ℕ → ℕ → List ℕ
+dayView bs i = turnViews (λ l. flows l (dayLabel bs i)) (dayTurns bs)
+
+-- "check 9 is on their sum"
+unfoldable pub dayReading : List ℕ → ℕ → List ℕ → Reading
+dayReading bs i buffer = answered (dayRefusal bs) (dayHeader bs .labels .count) (dayView bs i) i buffer

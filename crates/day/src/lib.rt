@@ -1,0 +1,1 @@
+// A day's jobs: running one, and ending it.
