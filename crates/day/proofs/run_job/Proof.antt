@@ -1,77 +1,76 @@
+-- `day::run_job` meets its contract.
+use mathlib.Core.List.{List}
+use Prim.Native.Nat.{ℕ, _+_, _≤_}
+use native.Mathlib.Omega.{arith}
+use lib.ListN.{length}
+use Rattle.day_file.specs.declared.Header.{Header}
+use Rattle.day_file.specs.declared.Job.{Job}
+use Rattle.day_file.specs.Parts.{DayLoads}
+use Rattle.day.proofs.Jobs.{ordered, counted, run-is, span-short}
 use borrow.Author.Needs.{needs}
 use Rattle.day.proofs.run_job.Statement.{statement}
 use Rattle.day.proofs.run_job.Tie as tie
-use Rattle.day.proofs.run_job.Reads as reads
-use Rattle.day.proofs.run_job.Lts as lts
-use Rattle.machine.proofs.execute.Reads as execute-reads
-use Rattle.operands.proofs.label_at.Reads as label-at-reads
 
--- src/lib.rt:107:17
-add-first : tie.Need-add-first
-add-first c = search needs
+-- the day, its header, the words of its labels, and the job
+module _ (b : tie.Start) where
+  abbrev bs : List ℕ
+  bs = b .args .file .now
 
--- src/lib.rt:108:15
-add-end : tie.Need-add-end
-add-end c = search needs
+  abbrev h : Header
+  h = b .args .h
 
--- src/lib.rt:109:9
-label-at-requires : tie.Need-label-at-requires
-label-at-requires c κs = search needs
+  abbrev j : Job
+  j = b .args .job
 
--- src/lib.rt:110:9
-label-at-requires-2 : tie.Need-label-at-requires-2
-label-at-requires-2 c κs = search needs
+  abbrev ws : List ℕ
+  ws = b .args .labels .now
 
--- src/lib.rt:112:9
-sub-execute : tie.Need-sub-execute
-sub-execute c = search needs
+  abbrev loads : DayLoads bs h ws
+  loads = b .pre .0
 
--- src/lib.rt:112:9
-part-execute-start : tie.Need-part-execute-start
-part-execute-start c = search needs
+  -- the parts lie within the file
+  inside : h .code .offset + j .start + j .length ≤ length bs
+  inside = b .pre .3 .span
 
--- src/lib.rt:112:9
-part-execute-end : tie.Need-part-execute-end
-part-execute-end c = search needs
+  first : h .records .offset ≤ h .jobs .offset
+  first = omega (arith, ordered bs h ws loads .jobs)
 
--- src/lib.rt:114:9
-sub-execute-2 : tie.Need-sub-execute-2
-sub-execute-2 c = ?
+  within : h .jobs .offset ≤ length bs
+  within = omega (arith, ordered bs h ws loads .code, ordered bs h ws loads .whole)
 
--- src/lib.rt:114:9
-part-execute-start-2 : tie.Need-part-execute-start-2
-part-execute-start-2 c = ?
+abbrev begun : (l : tie.After-label-at) → tie.Start
+begun l = search
 
--- src/lib.rt:114:9
-part-execute-end-2 : tie.Need-part-execute-end-2
-part-execute-end-2 c = ?
-
--- src/lib.rt:111:5
 execute-requires : tie.Need-execute-requires
-execute-requires c κs = ?
+execute-requires c κs =
+    let b : tie.Start = search in (
+      record { code = span-short (bs b) (h b) (ws b) (loads b) (j b) (b .pre .3 .short); labels = omega (arith, b .pre .1); store = b .pre .2 },
+      omega (arith, counted (bs b) (h b) (ws b) (loads b), b .pre .3 .inputs),
+      b .pre .3 .places,
+    )
 
--- src/lib.rt:98:1
-same-length : tie.Need-same-length
-same-length c = search needs
-
--- src/lib.rt:98:1
 returns : tie.Need-returns
-returns c = ?
+returns c =
+    let x : tie.After-execute = search in
+    let l2 : tie.After-label-at2 = search in
+    let l : tie.After-label-at = search in
+    let b = begun l in
+    rw (run-is (bs b) (h b) (ws b) (loads b) (j b) _ _ _ (l .label-at .ensures) (l2 .label-at2 .ensures)) at (x .execute .ensures)
 
 pub run-job-spec : {M : Type 1} → statement M
 run-job-spec =
     tie.close
     (tie.spec
-    add-first
-    add-end
-    label-at-requires
-    label-at-requires-2
-    sub-execute
-    part-execute-start
-    part-execute-end
-    sub-execute-2
-    part-execute-start-2
-    part-execute-end-2
+    (λ c. let b : tie.Start = search in omega (arith, inside b, b .good))
+    (λ c. let b : tie.Start = search in omega (arith, inside b, b .good))
+    (search needs)
+    (search needs)
+    (search needs)
+    (search needs)
+    (search needs)
+    (λ c. omega (arith, first (search)))
+    (λ c. omega (arith, first (search)))
+    (λ c. omega (arith, within (search)))
     execute-requires
-    same-length
+    (search needs)
     returns)
