@@ -58,6 +58,23 @@ module _ (bs : List ℕ) where
       let m2 : from2 ≤ 10 = check-most 10 2 (passes2 bs) from3 (omega arith) m3 in
       check-most 10 1 (passes1 bs) from2 (omega arith) m2
 
+-- ── what the checks tell ──
+
+module _ (bs : List ℕ) where
+  pub passing-few : passes10 bs ≡ true → (1 ≤ dayHeader bs .jobs .count) × (dayHeader bs .jobs .count ≤ 16)
+  unfolding passes10 jobsOk
+  passing-few e = let p = every-each _ e in (leb-true _ _ (p .0), leb-true _ _ (p .1 .0))
+
+  pub passing-fit : passes10 bs ≡ true → AllJobs (Fits (dayHeader bs) (dayLabel bs)) (dayJobs bs)
+  unfolding passes10 jobsOk
+  passing-fit e =
+      let p = every-each _ e in
+      all-map (fits (dayHeader bs) (dayLabel bs)) (dayJobs bs) (all-hold (jobOk (dayHeader bs) (dayLabel bs)) (dayJobs bs) (p .1 .1 .0))
+
+  -- the words of at most 32 labels hold them, at any index
+  pub labels-in : dayHeader bs .labels .count ≤ 32 → labelIn (labelWords (orNone (dayLabels bs))) ≡ dayLabel bs
+  labels-in few = fun-ext (words-are-labels (daySections bs) bs few)
+
 -- A day that is not refused passes each check.
 pub record Accepted (bs : List ℕ) : Type 0 where
   pub size : passes1 bs ≡ true
@@ -91,15 +108,11 @@ module _ (bs : List ℕ) (none : dayRefusal bs ≡ 0) where
   in-place = placed (dayHeader bs) (length bs) (accepted .offsets)
 
   pub few-jobs : (1 ≤ dayHeader bs .jobs .count) × (dayHeader bs .jobs .count ≤ 16)
-  unfolding passes10 jobsOk
-  few-jobs = let p = every-each _ (accepted .jobs) in (leb-true _ _ (p .0), leb-true _ _ (p .1 .0))
+  few-jobs = passing-few bs (accepted .jobs)
 
   -- and so do the numbers of each job, and its span passes check 7
   pub jobs-fit : AllJobs (Fits (dayHeader bs) (dayLabel bs)) (dayJobs bs)
-  unfolding passes10 jobsOk
-  jobs-fit =
-      let p = every-each _ (accepted .jobs) in
-      all-map (fits (dayHeader bs) (dayLabel bs)) (dayJobs bs) (all-hold (jobOk (dayHeader bs) (dayLabel bs)) (dayJobs bs) (p .1 .1 .0))
+  jobs-fit = passing-fit bs (accepted .jobs)
 
   pub spans-fit : AllJobs (λ j. spanOk bs j ≡ true) (dayJobs bs)
   unfolding passes7
@@ -111,9 +124,8 @@ module _ (bs : List ℕ) (none : dayRefusal bs ≡ 0) where
   pub span-ok : (k : ℕ) → k < dayHeader bs .jobs .count → spanOk bs (jobFrom bs (dayHeader bs .jobs .offset + 12 * k)) ≡ true
   span-ok k small = each-job (λ j. spanOk bs j ≡ true) bs _ _ k small spans-fit
 
-  -- the words of its labels hold them, at any index
   pub day-labels : labelIn (labelWords (orNone (dayLabels bs))) ≡ dayLabel bs
-  day-labels = fun-ext (words-are-labels (daySections bs) bs (within-limits .labels))
+  day-labels = labels-in bs (within-limits .labels)
 
 -- ── the answer ──
 
