@@ -19,7 +19,7 @@ use Rattle.view_fields.specs.Fields.{littleEndian, labelField, datumField, cont
 use Rattle.model.specs.State.{shown}
 use Rattle.view.specs.Layout.{slotField, recordFields, recordsShown, counts, final, viewLength, view}
 use Rattle.view.specs.Reading.{fileView}
-use Rattle.lines.specs.Lines.{hex, frontFields, recordFieldWidths, widths, spaced, line, lines, refusedLine, printed}
+use Rattle.lines.specs.Lines.{hex, frontFields, recordFieldWidths, widths, spaced, line, lines, digits, decimal, refusedLine, printed}
 use Rattle.cases.specs.Table.{cases}
 use Rattle.cases.specs.Example.{example, exampleLine}
 use Rattle.file_sections.specs.Sections.{readLabels, inputsOf, labelBytesOf, labelOf, labelsOf, recordBytesOf}
@@ -31,5 +31,5 @@ unfolding table implies holds flows join meet wellFormed readEntry u16 u32 opera
 all-cases-hold = refl
 
 pub example-printed : printed example ≡ exampleLine ++ exampleLine
-unfolding table implies holds flows join meet wellFormed readEntry u16 u32 operandBytes known size instrs fetch after popFrom asNumber asLabel asHandle asSealed asReference arity dropFrame operate plan inputs handles inputSlots failTo yield openSlot labelSlot writeSlot contentsOf outcome act perform step resume pay run runs startStore header labelBytesOf recordBytesOf codeBytes readLabels labelsOf labelOf sweep starts operandsOk instrOk mayBeLast codeOk every sizeOk countsOk offsetsOk recordsOk passes1 passes2 passes3 passes4 passes5 passes6 passes7 refusal inputsOf fileProgram fileAccount fileRun littleEndian labelField datumField contentsField resultField kindByte recordField slotField endingNumber shown recordFields recordsShown counts final viewLength view fileView hex frontFields recordFieldWidths widths spaced line lines refusedLine printed
+unfolding table implies holds flows join meet wellFormed readEntry u16 u32 operandBytes known size instrs fetch after popFrom asNumber asLabel asHandle asSealed asReference arity dropFrame operate plan inputs handles inputSlots failTo yield openSlot labelSlot writeSlot contentsOf outcome act perform step resume pay run runs startStore header labelBytesOf recordBytesOf codeBytes readLabels labelsOf labelOf sweep starts operandsOk instrOk mayBeLast codeOk every sizeOk countsOk offsetsOk recordsOk passes1 passes2 passes3 passes4 passes5 passes6 passes7 refusal inputsOf fileProgram fileAccount fileRun littleEndian labelField datumField contentsField resultField kindByte recordField slotField endingNumber shown recordFields recordsShown counts final viewLength view fileView hex frontFields recordFieldWidths widths spaced line lines digits decimal refusedLine printed
 example-printed = refl

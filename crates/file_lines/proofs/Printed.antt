@@ -21,10 +21,9 @@ refused-line : (bs : List ℕ) (r : Refusal) (n : ℕ) → Refused r ≡ loaded 
 unfolding printed
 refused-line bs r n e f = rw (← refused-number bs r e, stopped r, f)
 
-pub refused-printed : (bs : List ℕ) (r : Refusal) (n : ℕ) (out b : List ℕ) → Refused r ≡ loaded bs → n ≡ refusalNumber r → out ≡ over (refusedLine n) b
-    → (10 ≡ length (printed bs)) × (out ≡ over (printed bs) b)
-unfolding refusedLine
-refused-printed bs r n out b e f q = let l = refused-line bs r n e f in (ap length (sym l), rw l q)
+pub refused-printed : (bs : List ℕ) (r : Refusal) (n k : ℕ) (out b : List ℕ) → Refused r ≡ loaded bs → n ≡ refusalNumber r
+    → (k ≡ length (refusedLine n)) × (out ≡ over (refusedLine n) b) → (k ≡ length (printed bs)) × (out ≡ over (printed bs) b)
+refused-printed bs r n k out b e f q = rw (refused-line bs r n e f) q
 
 pub lines-printed : (bs : List ℕ) → refusal bs ≡ 0 → lines bs (header bs .labels .count) 0 ≡ printed bs
 unfolding printed

@@ -29,7 +29,7 @@ const LINE: usize = 13 + 7 * PLACES + 2 * VIEW;
 pub const ROOM: usize = 32 * LINE;
 
 // Writes the line of what a label is shown of a run, and gives how many bytes that is.
-fn write_shown(
+pub fn write_shown(
     reader: Label,
     steps: usize,
     finish: Finished,
@@ -74,10 +74,7 @@ pub fn write_printed(file: &[u8], out: &mut [u8]) -> usize
     let mut labels = [0u64; 64];
     let loaded = script_file::load(file, &mut labels);
     match loaded {
-        Loaded::Refused(why) => {
-            lines::write_refused(script_file::number(why) as u8, out);
-            10
-        }
+        Loaded::Refused(why) => lines::write_refused(script_file::number(why) as u8, out),
         Loaded::File(h) => write_lines(file, h, &labels, out),
     }
 }

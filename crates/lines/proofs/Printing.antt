@@ -1,13 +1,14 @@
 -- The fields of a line: their lengths, and what is left of them as a line is written. Assumes nothing.
 use mathlib.Core.Path.{_≡_, refl, sym, ap, ap₂, _∙_}
 use mathlib.Core.List.{List, [], _∷_, _++_, append-assoc}
-use Prim.Native.Nat.{ℕ, zero, suc, _+_, _*_, _≤_, _<_, _/_, _%_}
+use Prim.Native.Nat.{ℕ, zero, suc, _+_, _-_, _*_, _≤_, _<_, _/_, _%_}
 use native.Mathlib.Numerals.{add-one}
 use native.Mathlib.Omega.{arith}
+use borrow.Author.Tests.{lt-ltb, le-ltb}
 use lib.ListN.{length, getD, take, drop, length-append, length-drop}
 use lib.Seq.{drop-cons, drop-drop, take-add, length-take-le}
 use Rattle.model.specs.Decoding.{u16}
-use Rattle.lines.specs.Lines.{hexDigit, hex, frontFields, recordFieldWidths, widths, spaced, line}
+use Rattle.lines.specs.Lines.{hexDigit, hex, frontFields, recordFieldWidths, widths, spaced, line, digits, decimal, refusedLine}
 use Rattle.view_fields.specs.Writing.{over}
 use Rattle.lines.specs.Cutting.{Cut}
 use Rattle.view_fields.proofs.Buffers.{Writing, first, part, part-drop}
@@ -126,3 +127,31 @@ length-line v n r e c =
     let t : total ws ≡ 62 + 36 * n = total-append frontFields (widths k) ∙ (let f = total-widths k in omega arith) in
     let g : length (take (total ws) v) ≡ r = ap (λ (x : ℕ). length (take x v)) t ∙ ap length (sym (c .taken)) ∙ length-take-le r v (c .within) in
     omega arith
+
+-- ── a refusal ──
+
+one-digit : (n : ℕ) → n < 10 → decimal n ≡ (0x30 + n) ∷ []
+unfolding decimal digits
+one-digit zero h = refl
+one-digit (suc n) h = rw (lt-ltb (suc n) 10 h)
+
+two-digits : (n : ℕ) → 10 ≤ n → n < 20 → decimal n ≡ 0x31 ∷ (0x30 + (n - 10)) ∷ []
+unfolding decimal digits
+two-digits zero h g = absurd (omega arith)
+two-digits (suc zero) h g = absurd (omega arith)
+two-digits (suc (suc n)) h g =
+    let e : suc (suc n) / 10 ≡ 1 = omega arith in
+    let f : suc (suc n) % 10 ≡ suc (suc n) - 10 = omega arith in
+    rw (le-ltb (suc (suc n)) 10 h, e, f)
+
+abbrev pub refusedText : List ℕ
+refusedText = 0x72 ∷ 0x65 ∷ 0x66 ∷ 0x75 ∷ 0x73 ∷ 0x65 ∷ 0x64 ∷ 0x20 ∷ []
+
+-- the line of a number below 10, and of one from 10 to 19
+pub refused-short : (n : ℕ) → n < 10 → refusedLine n ≡ refusedText ++ ((0x30 + n) ∷ 0x0A ∷ [])
+unfolding refusedLine
+refused-short n h = rw (one-digit n h)
+
+pub refused-long : (n : ℕ) → 10 ≤ n → n < 20 → refusedLine n ≡ refusedText ++ (0x31 ∷ (0x30 + (n - 10)) ∷ 0x0A ∷ [])
+unfolding refusedLine
+refused-long n h g = rw (two-digits n h g)

@@ -45,9 +45,18 @@ unfoldable pub lines : List ℕ → ℕ → ℕ → List ℕ
 lines bs zero i = []
 lines bs (suc n) i = line (fileView bs i) ++ lines bs n (suc i)
 
+-- a number in decimal: below 10 one digit, else the digits of n / 10 and the digit n % 10; at most k + 1 of them
+unfoldable pub digits : ℕ → ℕ → List ℕ
+digits zero n = (0x30 + n) ∷ []
+digits (suc k) n = cond (ltb n 10) ((0x30 + n) ∷ []) (digits k (n / 10) ++ ((0x30 + n % 10) ∷ []))
+
+-- no number has more than n + 1 digits
+unfoldable pub decimal : ℕ → List ℕ
+decimal n = digits n n
+
 -- "the single line `refused`, a space and the number in decimal"
 unfoldable pub refusedLine : ℕ → List ℕ
-refusedLine n = 0x72 ∷ 0x65 ∷ 0x66 ∷ 0x75 ∷ 0x73 ∷ 0x65 ∷ 0x64 ∷ 0x20 ∷ (0x30 + n) ∷ 0x0A ∷ []
+refusedLine n = 0x72 ∷ 0x65 ∷ 0x66 ∷ 0x75 ∷ 0x73 ∷ 0x65 ∷ 0x64 ∷ 0x20 ∷ decimal n ++ (0x0A ∷ [])
 
 -- what the program prints of a file
 unfoldable pub printed : List ℕ → List ℕ

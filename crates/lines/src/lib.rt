@@ -133,12 +133,19 @@ fn write_bytes(bytes: &[u8], out: &mut [u8])
     }
 }
 
-// Writes the line of a file that is refused with the number `n`: 10 bytes.
-pub fn write_refused(n: u8, out: &mut [u8])
-    requires { ⌜ (n < 10) × (10 ≤ length (now out)) ⌝ }
-    ensures { λ _. ⌜ now (out .exit) ≡ over (refusedLine n) (now (out .entry)) ⌝ }
+// Writes the line of a file that is refused with the number `n`, and gives how many bytes that is. No check has a number
+// of 20 or more, so the first of two digits is 1.
+pub fn write_refused(n: u8, out: &mut [u8]) -> usize
+    requires { ⌜ (n < 20) × (11 ≤ length (now out)) ⌝ }
+    ensures { λ r. ⌜ (r ≡ length (refusedLine n)) × (now (out .exit) ≡ over (refusedLine n) (now (out .entry))) ⌝ }
 {
     let text = [b'r', b'e', b'f', b'u', b's', b'e', b'd', b' '];
     write_bytes(&text, out);
-    view_fields::write_pair(b'0' + n, b'\n', &mut out[8..]);
+    if n < 10 {
+        view_fields::write_pair(b'0' + n, b'\n', &mut out[8..]);
+        return 10;
+    }
+    out[8] = b'1';
+    view_fields::write_pair(b'0' + (n - 10), b'\n', &mut out[9..]);
+    11
 }

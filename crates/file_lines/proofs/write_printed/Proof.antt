@@ -32,7 +32,7 @@ cast-write-refused : tie.Need-cast-write-refused
 cast-write-refused c = omega (arith, small (search))
 
 write-refused-requires : tie.Need-write-refused-requires
-write-refused-requires c κs = let b : tie.Start = search in (small (search), omega (arith, b .pre))
+write-refused-requires c κs = let b : tie.Start = search in (omega (arith, small (search)), omega (arith, b .pre))
 
 write-lines-requires : tie.Need-write-lines-requires
 write-lines-requires c κs = let b : tie.Start = search in (loads (search), as-many (search), b .pre)
@@ -43,7 +43,7 @@ refused c =
     let n : tie.After-number = search in
     let f : tie.After-loaded = search in
     let l : tie.After-load = search in
-    refused-printed _ _ _ _ _ (sym (f .loaded .given .1) ∙ l .load .ensures .0) (n .number .ensures) (w .write-refused .ensures)
+    refused-printed _ _ _ _ _ _ (sym (f .loaded .given .1) ∙ l .load .ensures .0) (n .number .ensures) (w .write-refused .ensures)
 
 ran : tie.Need-returns-2
 ran c =
