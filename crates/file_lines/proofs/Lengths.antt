@@ -59,7 +59,7 @@ module _ (Reads : Label → Bool) where
           dropped = ap (λ (n : ℕ). drop n (view Reads s o)) long;
         }
 
-    line-most : length (o .store) ≤ 256 → length (line (view Reads s o)) ≤ longestLine
+    pub line-most : length (o .store) ≤ 256 → length (line (view Reads s o)) ≤ longestLine
     line-most le =
         let n = shown-most Reads (o .store) in
         let e = length-line (view Reads s o) (recordsShown Reads (o .store)) (length (view Reads s o)) (sym (count-field Reads s o (omega arith))) whole in

@@ -23,7 +23,7 @@ ghost use Rattle.file_lines.specs.Room.{mostPrinted};
 // fields, and 7 of each record.
 const VIEW: usize = RECORDS + RECORD * PLACES;
 
-const LINE: usize = 13 + 7 * PLACES + 2 * VIEW;
+pub const LINE: usize = 13 + 7 * PLACES + 2 * VIEW;
 
 // The lines of 32 labels, the most that a file has.
 pub const ROOM: usize = 32 * LINE;
