@@ -44,9 +44,6 @@ module _ (bs : List ℕ) where
   abbrev pub from2 : ℕ
   from2 = check 2 (passes2 bs) from3
 
-  abbrev pub from1 : ℕ
-  from1 = check 1 (passes1 bs) from2
-
   pub refusal-most : dayRefusal bs ≤ 10
   unfolding dayRefusal
   refusal-most =
