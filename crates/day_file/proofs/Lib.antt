@@ -1,0 +1,4 @@
+-- Laws that other crates and the proofs of the functions cite.
+pub mod Limits
+pub mod Tests
+pub mod Answers
