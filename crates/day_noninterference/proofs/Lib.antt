@@ -1,0 +1,5 @@
+-- Demand 3 over a day, and what it rests on.
+pub mod JobEnd
+pub mod Turns
+pub mod Sections
+pub mod Demand3
