@@ -27,7 +27,7 @@ use Rattle.noninterference.proofs.Sections.{one-or-legible}
 use Rattle.noninterference.proofs.Demand3.{readable, same-reads}
 use Rattle.day_noninterference.specs.Alike.{dayLegible, DayAlike}
 use Rattle.day_noninterference.proofs.Sections.{day-legible-each, same-header, same-day-labels, same-day-label, alike-day-inputs, same-jobs, same-span}
-use Rattle.day_noninterference.proofs.Turns.{Between, betweenJobs, same-turns, start-free}
+use Rattle.day_noninterference.proofs.Turns.{Between, betweenJobs, same-turns, start-free, count-inputs}
 
 -- two days whose jobs run alike, of as many input records, have the same turns
 turns-alike : (bs cs : List ℕ) → jobRun bs ≡ jobRun cs → dayHeader bs .records .count ≡ dayHeader cs .records .count
@@ -67,3 +67,41 @@ module _ (bs cs : List ℕ) (i : ℕ) (A : DayAlike bs cs i) (lb : dayLegible bs
       let one = same-day-label bs cs i A lb lc in
       let two = alike-handles (λ l. flows l (dayLabel bs i)) 0 (dayInputs bs) (dayInputs cs) alike in
       fun-ext (λ (j : Job). fun-ext (λ (σ : Store). cc (he, one, two, ap (λ (f : Job → List ℕ). f j) (same-span bs cs i A lb lc))))
+
+  -- the two days start from stores that the reader can't tell apart
+  starts : Between bs (λ l. flows l (dayLabel bs i)) (startStore (inputSlots (dayInputs bs))) (startStore (inputSlots (dayInputs cs)))
+  starts =
+      record {
+        left = start-free bs (dayInputs bs) (count-inputs bs);
+        right = start-free bs (dayInputs cs) (count-inputs cs ∙ ap (λ (h : Header). h .records .count) (sym he));
+        same = start-equivalent (betweenJobs bs) (λ l. flows l (dayLabel bs i)) (dayInputs bs) (dayInputs cs) alike refl;
+      }
+
+  views-alike : dayRefusal bs ≡ 0 → dayView bs i ≡ dayView cs i
+  unfolding dayView dayTurns
+  views-alike none =
+      same-turns bs (λ l. flows l (dayLabel bs i)) (λ l. flows l (dayLabel bs i)) (λ l e. e) (readable [] (dayLabel bs) (dayInputs bs) (dayLabel bs i))
+      (dayJobs bs) ads (startStore (inputSlots (dayInputs bs))) start (all-map (λ j f. f .places) (dayJobs bs) (jobs-fit bs none)) starts
+      ∙ ap (turnViews (λ l. flows l (dayLabel bs i))) (turns-alike bs cs same-run (ap (λ (h : Header). h .records .count) he) (dayJobs bs) ads start)
+      ∙ ap₂ (λ (h : Header) (js : List Job). turnViews (λ l. flows l (dayLabel bs i)) (turns cs js (admitted (h .steps) js) start))
+      he (same-jobs bs cs i A lb lc)
+      ∙ ap (λ (ls : ℕ → Label). turnViews (λ l. flows l (ls i)) (dayTurns cs)) (same-day-label bs cs i A lb lc)
+    where
+      ads : List Bool
+      ads = admitted (dayHeader bs .steps) (dayJobs bs)
+
+      start : Store
+      start = startStore (inputSlots (dayInputs cs))
+
+-- ── demand 3 ──
+
+-- Two days that are alike for a reading label's index, read with that index into buffers of one length: the same refusal
+-- and both buffers as they were, or one view of every job and each buffer's rest as it was.
+pub day-demand-3 : (bs cs : List ℕ) (i : ℕ) (b d : List ℕ) → DayAlike bs cs i → length b ≡ length d
+    → SameReads b d (dayReading bs i b) (dayReading cs i d)
+unfolding dayReading
+day-demand-3 bs cs i b d A sized =
+    one-or-legible dayLegible daySections bs cs i A (λ x. SameReads b d (dayReading bs i b) (dayReading x i d))
+    (same-reads b d sized (dayRefusal bs) (dayRefusal bs) _ _ (dayView bs i) (dayView bs i) i refl refl (λ _. refl))
+    (λ lb lc. same-reads b d sized (dayRefusal bs) (dayRefusal cs) _ _ (dayView bs i) (dayView cs i) i (same-refusal bs cs i A lb lc)
+    (ap (λ (h : Header). h .labels .count) (same-header bs cs i A lb lc)) (views-alike bs cs i A lb lc))
