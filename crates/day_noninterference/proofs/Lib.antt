@@ -3,3 +3,5 @@ pub mod JobEnd
 pub mod Turns
 pub mod Sections
 pub mod Demand3
+pub mod Accepted
+pub mod OneJob
