@@ -1,22 +1,20 @@
 -- Demand 3 over a whole day: one claim about two reads of two days. "A dealer's views still tell nothing of hidden numbers,
 -- over the whole day."
 use mathlib.Core.Bool.{Bool, true, false}
-use mathlib.Core.List.{List, [], _∷_, map}
-use mathlib.Core.Path.{_≡_, refl, sym, ap, ap₂, _∙_, subst, fun-ext}
-use Prim.Native.Nat.{ℕ, _≤_}
+use mathlib.Core.List.{List, [], _∷_}
+use mathlib.Core.Path.{_≡_, refl, sym, ap, ap₂, _∙_, fun-ext}
+use Prim.Native.Nat.{ℕ}
 use lib.ListN.{length}
 use Rattle.labels.specs.Order.{flows}
 use Rattle.labels.specs.declared.Label.{Label}
-use Rattle.model.specs.State.{Store, Program, Outcome}
-use Rattle.model.specs.declared.Account.{Account}
+use Rattle.model.specs.State.{Store, Outcome}
 use Rattle.model.specs.Inputs.{inputSlots}
-use Rattle.model.specs.Running.{runs, startStore}
+use Rattle.model.specs.Running.{startStore}
 use Rattle.model.proofs.Start.{AlikeInputs, alike-handles, start-equivalent}
-use Rattle.file_sections.specs.Checks.{every}
 use Rattle.day_file.specs.declared.Header.{Header}
 use Rattle.day_file.specs.declared.Job.{Job}
 use Rattle.day_file.specs.Sections.{dayHeader, daySections, dayLabel, dayInputs, dayJobs}
-use Rattle.day_file.specs.Checks.{spanOk, passes1, passes2, passes3, passes4, passes6, passes7, passes10, dayRefusal}
+use Rattle.day_file.specs.Checks.{spanOk, passes1, passes2, passes3, passes4, passes7, passes10, dayRefusal}
 use Rattle.day_file.proofs.Tests.{all-map}
 use Rattle.day_file.proofs.Answers.{jobs-fit}
 use Rattle.day.specs.Running.{jobProgram, jobAccount, jobRun, storeAfter, skipped, ran, Turn, turns, admitted, dayTurns}

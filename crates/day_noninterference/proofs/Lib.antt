@@ -3,5 +3,6 @@ pub mod JobEnd
 pub mod Turns
 pub mod Sections
 pub mod Demand3
+pub mod Example
 pub mod Accepted
 pub mod OneJob

@@ -1,14 +1,12 @@
 -- A day of one job, admitted, whose span is a plain file's code shows what that file shows.
-use mathlib.Core.Bool.{true}
 use mathlib.Core.List.{List, [], _∷_, append-nil}
-use mathlib.Core.Path.{_≡_, refl, sym, ap, ap₂, _∙_, fun-ext}
+use mathlib.Core.Path.{_≡_, ap, ap₂, _∙_, fun-ext}
 use Prim.Native.Nat.{ℕ, _≤_}
 use borrow.Author.Tests.{le-leb}
 use Rattle.labels.specs.Order.{flows}
 use Rattle.labels.specs.declared.Label.{Label}
-use Rattle.model.specs.State.{Outcome}
 use Rattle.model.specs.Inputs.{inputSlots}
-use Rattle.model.specs.Running.{runs, startControl, startStore}
+use Rattle.model.specs.Running.{startStore}
 use Rattle.file_sections.specs.Sections.{recordBytesOf, inputsOf}
 use Rattle.script_file.specs.Sections.{header, recordBytes, codeBytes, labelAt}
 use Rattle.script_file.specs.Program.{fileInputs, fileProgram, fileAccount, fileRun}
@@ -16,7 +14,7 @@ use Rattle.view.specs.Layout.{view}
 use Rattle.view.specs.Reading.{fileView}
 use Rattle.day_file.specs.Sections.{dayHeader, daySections, dayLabel, dayInputs, dayJobs, span}
 use Rattle.day_file.specs.declared.Job.{Job}
-use Rattle.day.specs.Running.{jobProgram, jobAccount, jobRun, Turn, ran, turns, admitted, dayTurns}
+use Rattle.day.specs.Running.{jobProgram, jobAccount, jobRun, ran, turns, admitted, dayTurns}
 use Rattle.day.specs.Views.{turnView, turnViews, dayView}
 
 -- Day bs has the one job j, which it admits; file cs has the same labels, records, code, steps and places, and its labels 0

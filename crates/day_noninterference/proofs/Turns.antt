@@ -2,13 +2,13 @@
 -- theorem. Which jobs are admitted is taken as given.
 use mathlib.Core.Bool.{Bool, true, false}
 use mathlib.Core.List.{List, [], _∷_, _++_}
-use mathlib.Core.Path.{_≡_, refl, sym, ap, ap₂, _∙_}
+use mathlib.Core.Path.{_≡_, refl, sym, ap, ap₂}
 use Prim.Native.Nat.{ℕ, _≤_}
 use native.Mathlib.Omega.{arith}
 use lib.ListN.{length}
 use Rattle.labels.specs.declared.Label.{Label}
 use Rattle.model.specs.State.{Store, Program}
-use Rattle.model.specs.Inputs.{Input, handles, inputSlots}
+use Rattle.model.specs.Inputs.{Input, inputSlots}
 use Rattle.model.specs.Running.{runs, programOf, startControl, startStore}
 use Rattle.model.proofs.Kept.{LowSet, Fresh, run-kept}
 use Rattle.model.proofs.LowEquivalence.{Twin, LowEquivalent, LowOutcomes}
