@@ -36,8 +36,28 @@ pub data Comes (bs : List ℕ) : List Job → List Bool → Store → Type 0 whe
   skips : {j : Job} {js : List Job} {ads : List Bool} {σ : Store} → Comes bs (j ∷ js) (false ∷ ads) σ → Comes bs js ads σ
   ends : {j : Job} {js : List Job} {ads : List Bool} {σ : Store} → Comes bs (j ∷ js) (true ∷ ads) σ → Comes bs js ads (storeAfter bs j σ)
 
+abbrev pub AllTurns : (Turn → Type 0) → List Turn → Type 0
+AllTurns P [] = Unit {0}
+AllTurns P (t ∷ ts) = P t × AllTurns P ts
+
+-- Each turn of the day is one of these: of a job that is skipped, or the run of one from a store that the day comes to.
+pub data Given (bs : List ℕ) : Turn → Type 0 where
+  no-run : Given bs skipped
+  a-run : {j : Job} {js : List Job} {ads : List Bool} {σ : Store} → Comes bs (j ∷ js) (true ∷ ads) σ → Given bs (ran (j .steps) (jobRun bs j σ))
+
+turns-given : (bs : List ℕ) (js : List Job) (ads : List Bool) (σ : Store) → Comes bs js ads σ → AllTurns (Given bs) (turns bs js ads σ)
+unfolding turns
+turns-given bs [] ads σ h = tt
+turns-given bs (j ∷ js) [] σ h = tt
+turns-given bs (j ∷ js) (true ∷ ads) σ h = (a-run h, turns-given bs js ads (storeAfter bs j σ) (ends h))
+turns-given bs (j ∷ js) (false ∷ ads) σ h = (no-run, turns-given bs js ads σ (skips h))
+
+pub day-given : (bs : List ℕ) → AllTurns (Given bs) (dayTurns bs)
+unfolding dayTurns
+day-given bs = turns-given bs _ _ _ starts
+
 module _ (bs : List ℕ) (none : dayRefusal bs ≡ 0) where
-  -- what holds of each
+  -- what holds of each state between jobs
   record Sound (js : List Job) (σ : Store) : Type 0 where
     fit : AllJobs (Fits (dayHeader bs) (dayLabel bs)) js
     pass : AllJobs (λ j. spanOk bs j ≡ true) js
@@ -76,10 +96,6 @@ module _ (bs : List ℕ) (none : dayRefusal bs ≡ 0) where
       (other-program (betweenJobs bs) (jobProgram bs j) anyLabel σ σ refl (s .between .same))
 
 -- ── the length fields ──
-
-abbrev pub AllTurns : (Turn → Type 0) → List Turn → Type 0
-AllTurns P [] = Unit {0}
-AllTurns P (t ∷ ts) = P t × AllTurns P ts
 
 -- a turn's view has as many bytes as its length field says
 abbrev pub LengthTold : List ℕ → ℕ → Turn → Type 0
