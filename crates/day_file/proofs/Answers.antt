@@ -13,7 +13,7 @@ use Rattle.file_sections.specs.Words.{labelWords}
 use Rattle.file_sections.proofs.Tests.{every-each}
 use Rattle.file_sections.proofs.Labels.{words-are-labels}
 use Rattle.day_file.specs.Sections.{dayHeader, daySections, dayLabels, dayLabel, dayJobs, jobFrom}
-use Rattle.day_file.specs.Checks.{passes1, passes2, passes3, passes4, passes10, passes6, passes7, jobOk, jobsOk, spanOk, check, dayRefusal}
+use Rattle.day_file.specs.Checks.{sizeOk, passes1, passes2, passes3, passes4, passes10, passes6, passes7, jobOk, jobsOk, spanOk, check, dayRefusal}
 use Rattle.day_file.specs.Loading.{answer, loadedDay, dayWords}
 use Rattle.day_file.specs.Parts.{DayLoads}
 use Rattle.day_file.specs.declared.Header.{Header}
@@ -44,9 +44,6 @@ module _ (bs : List ℕ) where
   abbrev pub from2 : ℕ
   from2 = check 2 (passes2 bs) from3
 
-  abbrev pub from1 : ℕ
-  from1 = check 1 (passes1 bs) from2
-
   pub refusal-most : dayRefusal bs ≤ 10
   unfolding dayRefusal
   refusal-most =
@@ -57,6 +54,23 @@ module _ (bs : List ℕ) where
       let m3 : from3 ≤ 10 = check-most 10 3 (passes3 bs) from4 (omega arith) m4 in
       let m2 : from2 ≤ 10 = check-most 10 2 (passes2 bs) from3 (omega arith) m3 in
       check-most 10 1 (passes1 bs) from2 (omega arith) m2
+
+-- ── what the checks tell ──
+
+module _ (bs : List ℕ) where
+  pub passing-few : passes10 bs ≡ true → (1 ≤ dayHeader bs .jobs .count) × (dayHeader bs .jobs .count ≤ 16)
+  unfolding passes10 jobsOk
+  passing-few e = let p = every-each _ e in (leb-true _ _ (p .0), leb-true _ _ (p .1 .0))
+
+  pub passing-fit : passes10 bs ≡ true → AllJobs (Fits (dayHeader bs) (dayLabel bs)) (dayJobs bs)
+  unfolding passes10 jobsOk
+  passing-fit e =
+      let p = every-each _ e in
+      all-map (fits (dayHeader bs) (dayLabel bs)) (dayJobs bs) (all-hold (jobOk (dayHeader bs) (dayLabel bs)) (dayJobs bs) (p .1 .1 .0))
+
+  -- the words of at most 32 labels hold them, at any index
+  pub labels-in : dayHeader bs .labels .count ≤ 32 → labelIn (labelWords (orNone (dayLabels bs))) ≡ dayLabel bs
+  labels-in few = fun-ext (words-are-labels (daySections bs) bs few)
 
 -- A day that is not refused passes each check.
 pub record Accepted (bs : List ℕ) : Type 0 where
@@ -81,6 +95,10 @@ module _ (bs : List ℕ) (none : dayRefusal bs ≡ 0) where
       let p7 = none-stops 6 (passes7 bs) 0 (p6 .1) in
       record { size = p1 .0; counts = p2 .0; offsets = p3 .0; labels = p4 .0; jobs = p10 .0; records = p6 .0; code = p7 .0 }
 
+  pub most-bytes : length bs ≤ 65535
+  unfolding passes1 sizeOk
+  most-bytes = let p = every-each _ (accepted .size) in leb-true _ _ (p .1 .0)
+
   -- so its sections lie within it, and its counts within their limits
   pub within-limits : Counted (dayHeader bs)
   unfolding passes2
@@ -91,15 +109,11 @@ module _ (bs : List ℕ) (none : dayRefusal bs ≡ 0) where
   in-place = placed (dayHeader bs) (length bs) (accepted .offsets)
 
   pub few-jobs : (1 ≤ dayHeader bs .jobs .count) × (dayHeader bs .jobs .count ≤ 16)
-  unfolding passes10 jobsOk
-  few-jobs = let p = every-each _ (accepted .jobs) in (leb-true _ _ (p .0), leb-true _ _ (p .1 .0))
+  few-jobs = passing-few bs (accepted .jobs)
 
   -- and so do the numbers of each job, and its span passes check 7
   pub jobs-fit : AllJobs (Fits (dayHeader bs) (dayLabel bs)) (dayJobs bs)
-  unfolding passes10 jobsOk
-  jobs-fit =
-      let p = every-each _ (accepted .jobs) in
-      all-map (fits (dayHeader bs) (dayLabel bs)) (dayJobs bs) (all-hold (jobOk (dayHeader bs) (dayLabel bs)) (dayJobs bs) (p .1 .1 .0))
+  jobs-fit = passing-fit bs (accepted .jobs)
 
   pub spans-fit : AllJobs (λ j. spanOk bs j ≡ true) (dayJobs bs)
   unfolding passes7
@@ -111,9 +125,8 @@ module _ (bs : List ℕ) (none : dayRefusal bs ≡ 0) where
   pub span-ok : (k : ℕ) → k < dayHeader bs .jobs .count → spanOk bs (jobFrom bs (dayHeader bs .jobs .offset + 12 * k)) ≡ true
   span-ok k small = each-job (λ j. spanOk bs j ≡ true) bs _ _ k small spans-fit
 
-  -- the words of its labels hold them, at any index
   pub day-labels : labelIn (labelWords (orNone (dayLabels bs))) ≡ dayLabel bs
-  day-labels = fun-ext (words-are-labels (daySections bs) bs (within-limits .labels))
+  day-labels = labels-in bs (within-limits .labels)
 
 -- ── the answer ──
 

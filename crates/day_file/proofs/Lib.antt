@@ -2,3 +2,5 @@
 pub mod Limits
 pub mod Tests
 pub mod Answers
+pub mod Turns
+pub mod Findings
