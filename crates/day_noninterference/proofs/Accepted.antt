@@ -22,7 +22,7 @@ use Rattle.day_file.specs.declared.Job.{Job}
 use Rattle.day_file.proofs.Limits.{Fits}
 use Rattle.day_file.proofs.Tests.{AllJobs, all-map}
 use Rattle.day_file.proofs.Answers.{within-limits, in-place, jobs-fit, spans-fit}
-use Rattle.day.specs.Running.{jobProgram, jobAccount, jobRun, storeAfter, Turn, turns, admitted, dayTurns}
+use Rattle.day.specs.Running.{jobProgram, jobAccount, jobRun, storeAfter, Turn, skipped, ran, turns, admitted, dayTurns}
 use Rattle.day.specs.Views.{skippedView, turnView}
 use Rattle.noninterference.proofs.Accepted.{OnCode, every-label, reached-on-code, start-closed}
 use Rattle.day_noninterference.proofs.JobEnd.{Free, end-length, other-program}
