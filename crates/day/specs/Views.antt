@@ -22,10 +22,14 @@ unfoldable pub turnView : (Label → Bool) → Turn → List ℕ
 turnView Reads skipped = skippedView
 turnView Reads (ran s o) = view Reads s o
 
+-- what is made of each turn, end to end
+unfoldable pub eachTurn : (Turn → List ℕ) → List Turn → List ℕ
+eachTurn f [] = []
+eachTurn f (t ∷ ts) = f t ++ eachTurn f ts
+
 -- "There is one view per job, laid end to end"
-unfoldable pub turnViews : (Label → Bool) → List Turn → List ℕ
-turnViews Reads [] = []
-turnViews Reads (t ∷ ts) = turnView Reads t ++ turnViews Reads ts
+abbrev pub turnViews : (Label → Bool) → List Turn → List ℕ
+turnViews Reads ts = eachTurn (turnView Reads) ts
 
 unfoldable pub dayView : List ℕ → ℕ → List ℕ
 dayView bs i = turnViews (λ l. flows l (dayLabel bs i)) (dayTurns bs)

@@ -53,6 +53,14 @@ slot-put l p k s i t x y h e =
     let e5 : 6 * p + 5 ≡ suc (suc (suc (suc (suc (6 * p))))) = omega arith in
     rw (e1, e2, e3, e4, e5) (slot-set l p k s i t x y h (omega arith))
 
+-- the kind's word alone empties a place
+pub slot-clear : (l : List ℕ) (p : ℕ) → p < places → length l ≡ words → slots (set l (6 * p) 0) ≡ set (slots l) p Empty
+slot-clear l p h e =
+    let m : List ℕ = set l (6 * p) 0 in
+    let same : (i : ℕ) → set m i (getD m i 0) ≡ m = λ i. set-getD m i 0 in
+    rw (same (6 * p + 1), same (6 * p + 2), same (6 * p + 3), same (6 * p + 4), same (6 * p + 5)) at
+    (slot-put l p 0 (getD m (6 * p + 1) 0) (getD m (6 * p + 2) 0) (getD m (6 * p + 3) 0) (getD m (6 * p + 4) 0) (getD m (6 * p + 5) 0) h e)
+
 pub slot-keep : (l : List ℕ) (p : ℕ) (x : Slot) → places ≤ p → slots l ≡ set (slots l) p x
 slot-keep l p x h = sym (set-out (slots l) p x (let e = length-slots l in omega arith))
 

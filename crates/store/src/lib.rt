@@ -166,6 +166,16 @@ pub fn save(store: &mut [u64], p: usize, r: Record)
     }
 }
 
+// Empties a place.
+pub fn clear(store: &mut [u64], p: usize)
+    requires { ⌜ length (now store) ≡ words ⌝ }
+    ensures { λ _. ⌜ slots (now (store .exit)) ≡ set (slots (now (store .entry))) p Slot.Empty ⌝ }
+{
+    if p < PLACES {
+        store[WIDTH * p] = 0;
+    }
+}
+
 fn kind_word(kind: Kind) -> u64
     ensures { λ w. ⌜ w ≡ kindWord kind ⌝ }
 {

@@ -31,7 +31,7 @@ pub enum Answer {
 // The last three of its six numbers, records shown first; the result, label and clearance; the records.
 pub const SHOWN: usize = 3 * NUMBER;
 
-const RESULT: usize = 6 * NUMBER;
+pub const RESULT: usize = 6 * NUMBER;
 
 pub const RECORDS: usize = RESULT + FINAL;
 
@@ -40,7 +40,7 @@ const FINAL_LABEL: usize = VALUE;
 
 const FINAL_CLEARANCE: usize = VALUE + LABEL;
 
-const FINAL: usize = VALUE + 2 * LABEL;
+pub const FINAL: usize = VALUE + 2 * LABEL;
 
 // ---- records
 

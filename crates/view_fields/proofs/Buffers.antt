@@ -38,7 +38,7 @@ ends {whole} {left} {b₀} {b} {i} w e = sym (w .rest ∙ ap (λ (v : List ℕ).
 
 module _ {whole left b₀ b : List ℕ} {i : ℕ} (w : Writing whole left b₀ b i) where
   -- xs, n bytes, is written over the part from i on
-  more : (xs l : List ℕ) → left ≡ xs ++ l → (n : ℕ) → length xs ≡ n → i + n ≤ length b₀
+  pub more : (xs l : List ℕ) → left ≡ xs ++ l → (n : ℕ) → length xs ≡ n → i + n ≤ length b₀
       → (b′ : List ℕ) → b′ ≡ take i b ++ over xs (drop i b) → Writing whole l b₀ b′ (i + n)
   unfolding over
   more xs l d n e h b′ q =

@@ -1,0 +1,4 @@
+-- Laws that the proofs of the functions cite.
+pub mod JobEnd
+pub mod Jobs
+pub mod Turns
