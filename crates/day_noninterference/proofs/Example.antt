@@ -28,7 +28,7 @@ use Rattle.view_fields.specs.Fields.{littleEndian, labelField, datumField, cont
 use Rattle.view.specs.Layout.{slotField, recordFields, recordsShown, counts, final, viewLength, view}
 use Rattle.day.specs.JobEnd.{keptDatum, keptContents, keptSlot, endSlot, endFrom}
 use Rattle.day.specs.Running.{jobProgram, jobAccount, jobRun, storeAfter, admitted, turns, dayTurns}
-use Rattle.day.specs.Views.{skippedView, turnView, turnViews, dayView}
+use Rattle.day.specs.Views.{skippedView, turnView, eachTurn, dayView}
 use Rattle.noninterference.specs.Alike.{inputLabel, Hidden}
 use Rattle.day_noninterference.specs.Alike.{dayLegible, DayAlike}
 
@@ -90,7 +90,7 @@ pub record Computed : Type 0 where
   pub opens-9 : byte (dayView (day 9) 1) 154 ≡ 9
 
 pub computed : Computed
-unfolding day template publicViews dayLegible holds table implies flows join wellFormed readEntry u16 u32 operandBytes known size instrs fetch after popFrom asNumber asLabel asHandle asSealed asReference arity dropFrame operate plan failTo yield openSlot labelSlot writeSlot contentsOf outcome act inputs handles inputSlots perform step resume pay run runs startStore dayHeader labelBytesOf recordBytesOf readLabels labelsOf labelOf sweep starts operandsOk instrOk mayBeLast codeOk every sizeOk countsOk offsetsOk recordsOk jobFrom jobsFrom span jobOk jobsOk spanOk passes1 passes2 passes3 passes4 passes6 passes7 passes10 dayRefusal inputsOf keptDatum keptContents keptSlot endSlot endFrom jobProgram jobAccount jobRun storeAfter admitted turns dayTurns littleEndian labelField datumField contentsField endingNumber resultField kindByte recordField shown slotField recordFields recordsShown counts final viewLength view skippedView turnView turnViews dayView
+unfolding day template publicViews dayLegible holds table implies flows join wellFormed readEntry u16 u32 operandBytes known size instrs fetch after popFrom asNumber asLabel asHandle asSealed asReference arity dropFrame operate plan failTo yield openSlot labelSlot writeSlot contentsOf outcome act inputs handles inputSlots perform step resume pay run runs startStore dayHeader labelBytesOf recordBytesOf readLabels labelsOf labelOf sweep starts operandsOk instrOk mayBeLast codeOk every sizeOk countsOk offsetsOk recordsOk jobFrom jobsFrom span jobOk jobsOk spanOk passes1 passes2 passes3 passes4 passes6 passes7 passes10 dayRefusal inputsOf keptDatum keptContents keptSlot endSlot endFrom jobProgram jobAccount jobRun storeAfter admitted turns dayTurns littleEndian labelField datumField contentsField endingNumber resultField kindByte recordField shown slotField recordFields recordsShown counts final viewLength view skippedView turnView eachTurn dayView
 computed =
     record {
       legible-7 = refl;

@@ -15,7 +15,7 @@ use Rattle.view.specs.Reading.{fileView}
 use Rattle.day_file.specs.Sections.{dayHeader, daySections, dayLabel, dayInputs, dayJobs, span}
 use Rattle.day_file.specs.declared.Job.{Job}
 use Rattle.day.specs.Running.{jobProgram, jobAccount, jobRun, ran, turns, admitted, dayTurns}
-use Rattle.day.specs.Views.{turnView, turnViews, dayView}
+use Rattle.day.specs.Views.{turnView, eachTurn, turnViews, dayView}
 
 -- Day bs has the one job j, which it admits; file cs has the same labels, records, code, steps and places, and its labels 0
 -- and 1 are the job's two.
@@ -48,7 +48,7 @@ module _ (bs cs : List ℕ) (j : Job) (s : SameScript bs cs j) where
   one-turn = rw (s .one-job, le-leb (j .steps) (dayHeader bs .steps) (s .admits))
 
   pub one-job-view : (i : ℕ) → dayView bs i ≡ fileView cs i
-  unfolding dayView turnViews turnView fileView
+  unfolding dayView eachTurn turnView fileView
   one-job-view i =
       ap (turnViews (λ l. flows l (dayLabel bs i))) one-turn
       ∙ append-nil (view (λ l. flows l (dayLabel bs i)) (j .steps) (jobRun bs j (startStore (inputSlots (dayInputs bs)))))

@@ -20,7 +20,7 @@ use Rattle.day_file.specs.Sections.{dayHeader, daySections, dayLabel, dayInputs
 use Rattle.day_file.specs.declared.Job.{Job}
 use Rattle.day_file.proofs.Tests.{AllJobs}
 use Rattle.day.specs.Running.{jobProgram, jobAccount, jobRun, storeAfter, skipped, turns}
-use Rattle.day.specs.Views.{turnView, turnViews}
+use Rattle.day.specs.Views.{turnView, eachTurn, turnViews}
 use Rattle.day_noninterference.proofs.JobEnd.{Free, end-free, end-equivalent, other-program}
 
 module _ (bs : List ℕ) where
@@ -88,7 +88,7 @@ module _ (bs : List ℕ) where
   module _ (Reads Low : Label → Bool) (within : (l : Label) → Reads l ≡ true → Low l ≡ true) (D : LowSet betweenJobs Low) where
     pub same-turns : (js : List Job) (ads : List Bool) (σ τ : Store) → AllJobs (λ j. j .places ≤ 256) js → Between Low σ τ
         → turnViews Reads (turns bs js ads σ) ≡ turnViews Reads (turns bs js ads τ)
-    unfolding turns turnViews turnView
+    unfolding turns eachTurn turnView
     same-turns [] ads σ τ fit b = refl
     same-turns (j ∷ js) [] σ τ fit b = refl
     same-turns (j ∷ js) (true ∷ ads) σ τ fit b =
