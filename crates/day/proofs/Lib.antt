@@ -2,3 +2,4 @@
 pub mod JobEnd
 pub mod Jobs
 pub mod Turns
+pub mod Views

@@ -13,7 +13,7 @@ use Rattle.file_sections.specs.Words.{labelWords}
 use Rattle.file_sections.proofs.Tests.{every-each}
 use Rattle.file_sections.proofs.Labels.{words-are-labels}
 use Rattle.day_file.specs.Sections.{dayHeader, daySections, dayLabels, dayLabel, dayJobs, jobFrom}
-use Rattle.day_file.specs.Checks.{passes1, passes2, passes3, passes4, passes10, passes6, passes7, jobOk, jobsOk, spanOk, check, dayRefusal}
+use Rattle.day_file.specs.Checks.{sizeOk, passes1, passes2, passes3, passes4, passes10, passes6, passes7, jobOk, jobsOk, spanOk, check, dayRefusal}
 use Rattle.day_file.specs.Loading.{answer, loadedDay, dayWords}
 use Rattle.day_file.specs.Parts.{DayLoads}
 use Rattle.day_file.specs.declared.Header.{Header}
@@ -43,9 +43,6 @@ module _ (bs : List ℕ) where
 
   abbrev pub from2 : ℕ
   from2 = check 2 (passes2 bs) from3
-
-  abbrev pub from1 : ℕ
-  from1 = check 1 (passes1 bs) from2
 
   pub refusal-most : dayRefusal bs ≤ 10
   unfolding dayRefusal
@@ -97,6 +94,10 @@ module _ (bs : List ℕ) (none : dayRefusal bs ≡ 0) where
       let p6 = none-stops 5 (passes6 bs) (from7 bs) (p10 .1) in
       let p7 = none-stops 6 (passes7 bs) 0 (p6 .1) in
       record { size = p1 .0; counts = p2 .0; offsets = p3 .0; labels = p4 .0; jobs = p10 .0; records = p6 .0; code = p7 .0 }
+
+  pub most-bytes : length bs ≤ 65535
+  unfolding passes1 sizeOk
+  most-bytes = let p = every-each _ (accepted .size) in leb-true _ _ (p .1 .0)
 
   -- so its sections lie within it, and its counts within their limits
   pub within-limits : Counted (dayHeader bs)

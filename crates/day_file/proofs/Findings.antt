@@ -14,14 +14,13 @@ use Rattle.file_sections.specs.Checks.{recordsOk}
 use Rattle.file_sections.specs.Words.{tableOf, tables, labelWords}
 use Rattle.file_sections.specs.declared.Table.{Table}
 use Rattle.file_sections.proofs.Labels.{length-padded}
-use Rattle.day_file.specs.Sections.{dayHeader, dayLabels, dayLabel, jobFrom, jobsFrom, span}
+use Rattle.day_file.specs.Sections.{dayHeader, daySections, dayLabels, dayLabel, jobFrom, jobsFrom, span}
 use Rattle.day_file.specs.Checks.{sizeOk, countsOk, offsetsOk, jobsOk, spanOk, passes1, passes2, passes3, passes4, passes10, passes6, passes7}
 use Rattle.day_file.specs.declared.Header.{Header}
 use Rattle.day_file.specs.declared.Job.{Job}
-use Rattle.day_file.proofs.Limits.{counted, placed}
+use Rattle.day_file.proofs.Limits.{counted, placed, Fits}
 use Rattle.day_file.proofs.Tests.{each-job}
 use Rattle.day_file.proofs.Answers.{labels-in, passing-fit}
-use Rattle.day_file.proofs.Limits.{Fits}
 use Rattle.day_file.proofs.Turns.{allPass}
 
 -- the parts that the code takes of a file, where the header says
@@ -54,7 +53,7 @@ module _ (bs : List ℕ) where
     unfolding labelsOf labelBytesOf
     day-table t e = e ∙ ap (λ (g : Header). tableOf (readLabels (g .labels .count) (take (g .records .offset - 20) (drop 20 bs)))) is
 
-    records-in : h .jobs .offset ≡ h .records .offset + 6 * h .records .count → recordsIn h bs ≡ recordBytesOf (record { first = 20; labels = dayHeader bs .labels .count; records = dayHeader bs .records }) bs
+    records-in : h .jobs .offset ≡ h .records .offset + 6 * h .records .count → recordsIn h bs ≡ recordBytesOf (daySections bs) bs
     unfolding recordBytesOf
     records-in e =
         let count : h .jobs .offset - h .records .offset ≡ 6 * h .records .count = omega arith in

@@ -21,30 +21,28 @@ module _ (test : Job → Bool) (bs : List ℕ) where
   unfolding every jobsFrom
   next-job n at e = rw e
 
-  module _ (n at : ℕ) where
-    -- the jobs from the i-th on decide
-    pub record Left (i : ℕ) : Type 0 where
-      pub few : i ≤ n
-      pub decide : allPass n at ≡ allPass (n - i) (at + 12 * i)
+-- the jobs from the i-th on decide
+pub record Left (test : Job → Bool) (bs : List ℕ) (n at i : ℕ) : Type 0 where
+  pub decide : allPass test bs n at ≡ allPass test bs (n - i) (at + 12 * i)
 
-    pub all-left : Left 0
-    all-left =
-        let e : n ≡ n - 0 = omega arith in
-        let f : at ≡ at + 12 * 0 = omega arith in
-        record { few = omega arith; decide = ap₂ allPass e f }
+pub all-left : (test : Job → Bool) (bs : List ℕ) (n at : ℕ) → Left test bs n at 0
+all-left test bs n at =
+    let e : n ≡ n - 0 = omega arith in
+    let f : at ≡ at + 12 * 0 = omega arith in
+    record { decide = ap₂ (allPass test bs) e f }
 
-    module _ {i : ℕ} (l : Left i) where
-      here : i < n → allPass n at ≡ allPass (suc (n - (i + 1))) (at + 12 * i)
-      here h = let e : n - i ≡ suc (n - (i + 1)) = omega arith in l .decide ∙ ap (λ (k : ℕ). allPass k (at + 12 * i)) e
+module _ {test : Job → Bool} {bs : List ℕ} {n at i : ℕ} (l : Left test bs n at i) where
+  here : i < n → allPass test bs n at ≡ allPass test bs (suc (n - (i + 1))) (at + 12 * i)
+  here h = let e : n - i ≡ suc (n - (i + 1)) = omega arith in l .decide ∙ ap (λ (k : ℕ). allPass test bs k (at + 12 * i)) e
 
-      pub one-stops : i < n → test (jobFrom bs (at + 12 * i)) ≡ false → allPass n at ≡ false
-      one-stops h e = here h ∙ job-stops (n - (i + 1)) (at + 12 * i) e
+  pub one-stops : i < n → test (jobFrom bs (at + 12 * i)) ≡ false → allPass test bs n at ≡ false
+  one-stops h e = here h ∙ job-stops test bs (n - (i + 1)) (at + 12 * i) e
 
-      pub one-less : i < n → test (jobFrom bs (at + 12 * i)) ≡ true → Left (i + 1)
-      one-less h e =
-          let f : at + 12 * i + 12 ≡ at + 12 * (i + 1) = omega arith in
-          record { few = omega arith; decide = here h ∙ next-job (n - (i + 1)) (at + 12 * i) e ∙ ap (allPass (n - (i + 1))) f }
+  pub one-less : i < n → test (jobFrom bs (at + 12 * i)) ≡ true → Left test bs n at (i + 1)
+  one-less h e =
+      let f : at + 12 * i + 12 ≡ at + 12 * (i + 1) = omega arith in
+      record { decide = here h ∙ next-job test bs (n - (i + 1)) (at + 12 * i) e ∙ ap (allPass test bs (n - (i + 1))) f }
 
-      pub none-left : n ≤ i → allPass n at ≡ true
-      unfolding every jobsFrom
-      none-left h = let e : n - i ≡ 0 = omega arith in l .decide ∙ ap (λ (k : ℕ). allPass k (at + 12 * i)) e
+  pub none-left : n ≤ i → allPass test bs n at ≡ true
+  unfolding every jobsFrom
+  none-left h = let e : n - i ≡ 0 = omega arith in l .decide ∙ ap (λ (k : ℕ). allPass test bs k (at + 12 * i)) e

@@ -17,7 +17,7 @@ use Rattle.model.specs.Operands.{popFrom, asNumber, asLabel, asHandle, asSealed
 use Rattle.model.specs.Effects.{failTo, yield, openSlot, labelSlot, writeSlot, contentsOf, outcome, act}
 use Rattle.model.specs.Inputs.{inputs, handles, inputSlots}
 use Rattle.model.specs.Running.{perform, step, resume, pay, run, runs, startStore}
-use Rattle.script_file.specs.Sections.{header, codeBytes, labelAt}
+use Rattle.script_file.specs.Sections.{header, sections, codeBytes, labelAt}
 use Rattle.code_check.specs.Sweep.{sweep, starts, operandsOk, instrOk, mayBeLast, codeOk}
 use Rattle.script_file.specs.Checks.{sizeOk, countsOk, offsetsOk, passes1, passes2, passes3, passes4, passes5, passes6, passes7, refusal}
 use Rattle.script_file.specs.Program.{fileProgram, fileAccount, fileRun}
@@ -59,7 +59,7 @@ pub record Computed : Type 0 where
   -- the record starts at 21, and its label, ⟨player, True⟩, doesn't flow to the public one
   pub one-record : header (file 7) .records .count ≡ 1
   pub at-21 : header (file 7) .records .offset ≡ 21
-  pub hides : flows (inputLabel (file 7) 0) (labelAt (file 7) 0) ≡ false
+  pub hides : flows (inputLabel (sections (file 7)) (file 7) 0) (labelAt (file 7) 0) ≡ false
   pub loads : refusal (file 7) ≡ 0
   pub shows : fileView (file 7) 0 ≡ publicView
   -- byte 118 of what the reader ⟨player, True⟩ is shown is of the outcome's number: the block did open the record
@@ -90,7 +90,7 @@ pub alike : Alike (file 7) (file 9) 0
 unfolding file
 alike = record { sized = length-set template 23 7 ∙ sym (length-set template 23 9); bytes = λ p n. test p n (ℕ-discrete p 23) }
   where
-    hidden : (p : ℕ) → p ≡ 23 → Hidden (file 7) 0 p
+    hidden : (p : ℕ) → p ≡ 23 → Hidden (sections (file 7)) (file 7) 0 p
     hidden p e =
         record {
           input = 0;
@@ -100,7 +100,7 @@ alike = record { sized = length-set template 23 7 ∙ sym (length-set template 2
           no-flow = computed .hides;
         }
 
-    test : (p : ℕ) → ¬ ((legible (file 7) 0 ≡ true) × (legible (file 9) 0 ≡ true) × Hidden (file 7) 0 p) → Dec (p ≡ 23)
+    test : (p : ℕ) → ¬ ((legible (file 7) 0 ≡ true) × (legible (file 9) 0 ≡ true) × Hidden (sections (file 7)) (file 7) 0 p) → Dec (p ≡ 23)
         → byte (file 7) p ≡ byte (file 9) p
     test p n (yes e) = absurd (n (computed .legible-7, computed .legible-9, hidden p e))
     test p n (no e) = getD-set-other template 23 p 7 0 e ∙ sym (getD-set-other template 23 p 9 0 e)

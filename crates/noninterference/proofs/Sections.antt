@@ -1,8 +1,9 @@
--- Two alike files that none of 1 to 4, 6 and 8 stops: one header, the same labels and code, and alike input records.
-use mathlib.Core.Bool.{true, false, true≢false}
+-- Two files that differ in hidden numbers alone: the same labels, the same bytes outside the records, and alike input
+-- records. Of the sections that a plain file and a day both have; then of plain files: one header and code.
+use mathlib.Core.Bool.{Bool, true, false, true≢false}
 use mathlib.Core.List.{List, [], _∷_}
 use mathlib.Core.Option.{Option}
-use mathlib.Core.Path.{_≡_, sym, ap, _∙_, subst, subst₂}
+use mathlib.Core.Path.{_≡_, refl, sym, ap, _∙_, subst}
 use Prim.Native.Nat.{ℕ, zero, suc, _+_, _-_, _*_, _≤_, _<_}
 use native.Mathlib.Omega.{arith}
 use lib.Dec.{ltb, lit<}
@@ -14,18 +15,18 @@ use Rattle.model.specs.Decoding.{byte, u16, u32}
 use Rattle.model.specs.Inputs.{kindOf, inputs}
 use Rattle.model.proofs.Start.{AlikeInputs}
 use Rattle.script_file.specs.declared.Header.{Header}
-use Rattle.script_file.specs.Sections.{header, recordBytes, codeBytes, fileLabels, labelAt}
+use Rattle.script_file.specs.Sections.{header, sections, codeBytes, fileLabels, labelAt}
 use Rattle.script_file.specs.Checks.{passes1, passes2, passes3, passes4, passes6}
 use Rattle.script_file.specs.Program.{fileInputs}
-use Rattle.file_sections.specs.Sections.{readLabels, orNone, inputsOf, labelBytesOf, labelOf, labelsOf, recordBytesOf}
+use Rattle.file_sections.specs.Sections.{Sections, readLabels, orNone, inputsOf, labelBytesOf, labelOf, labelsOf, recordBytesOf}
 use Rattle.file_sections.proofs.Tests.{Each, every-each}
 use Rattle.script_file.proofs.Limits.{Placed, placed}
-use Rattle.noninterference.specs.Alike.{legible, recordAt, inputLabel, Hidden, Alike}
+use Rattle.noninterference.specs.Alike.{recordAt, inputLabel, Hidden, AlikeBy, legible, Alike}
 
 -- ── parts of two lists ──
 
 module _ (bs cs : List ℕ) (sized : length bs ≡ length cs) where
-  same-drop : (m : ℕ) → ((p : ℕ) → m ≤ p → byte bs p ≡ byte cs p) → drop m bs ≡ drop m cs
+  pub same-drop : (m : ℕ) → ((p : ℕ) → m ≤ p → byte bs p ≡ byte cs p) → drop m bs ≡ drop m cs
   same-drop m h =
       ext-getD 0 (drop m bs) (drop m cs) (simp length-drop (omega arith))
       (λ p _. getD-drop m bs p 0 ∙ h (m + p) (omega arith) ∙ sym (getD-drop m cs p 0))
@@ -38,10 +39,119 @@ module _ (bs cs : List ℕ) (sized : length bs ≡ length cs) where
       ∙ sym (getD-drop m cs p 0) ∙ sym (getD-take n (drop m cs) p 0 le))
 
 -- byte q of the record section
-record-byte : (bs : List ℕ) (q : ℕ) → q < 6 * header bs .records .count → byte (recordBytes bs) q ≡ byte bs (header bs .records .offset + q)
+record-byte : (s : Sections) (bs : List ℕ) (q : ℕ) → q < 6 * s .records .count → byte (recordBytesOf s bs) q ≡ byte bs (s .records .offset + q)
 unfolding recordBytesOf
-record-byte bs q lt =
-    getD-take (6 * header bs .records .count) (drop (header bs .records .offset) bs) q 0 lt ∙ getD-drop (header bs .records .offset) bs q 0
+record-byte s bs q lt =
+    getD-take (6 * s .records .count) (drop (s .records .offset) bs) q 0 lt ∙ getD-drop (s .records .offset) bs q 0
+
+-- ── two files of one length with the same bytes but in hidden numbers ──
+
+module _ (bs cs : List ℕ) (s : Sections) (i : ℕ) (sized : length bs ≡ length cs)
+    (same-byte : (p : ℕ) → ¬ Hidden s bs i p → byte bs p ≡ byte cs p) (ordered : s .first ≤ s .records .offset) where
+  pub before-records : (p : ℕ) → p < s .records .offset → byte bs p ≡ byte cs p
+  before-records p lt = same-byte p (λ h. omega (arith, h .from))
+
+  pub behind-records : (p : ℕ) → s .records .offset + 6 * s .records .count ≤ p → byte bs p ≡ byte cs p
+  behind-records p le = same-byte p (λ h. omega (arith, h .counted, h .to))
+
+  pub same-labels : labelsOf s bs ≡ labelsOf s cs
+  unfolding labelsOf labelBytesOf
+  same-labels =
+      ap (readLabels (s .labels))
+      (same-slice bs cs sized (s .first) (s .records .offset - s .first) (λ p _ lt. before-records p (omega (arith, ordered))))
+
+  pub same-label : labelOf s bs ≡ labelOf s cs
+  unfolding labelOf
+  same-label = ap {B = ℕ → Label} (λ (o : Option (List Label)) (p : ℕ). getD (orNone o) p (record { secrecy = 0; integrity = 0 })) same-labels
+
+  -- kind and label index of input record j
+  record-front : (j p : ℕ) → recordAt s j ≤ p → p < recordAt s j + 2 → byte bs p ≡ byte cs p
+  record-front j p lo hi = same-byte p (λ h. omega (arith, h .from, h .to))
+
+  -- all six bytes of it, if its label flows to the reading label
+  record-whole : (j p : ℕ) → recordAt s j ≤ p → p < recordAt s j + 6 → flows (inputLabel s bs j) (labelOf s bs i) ≡ true → byte bs p ≡ byte cs p
+  record-whole j p lo hi f = same-byte p (λ h. true≢false (sym f ∙ ap (λ (n : ℕ). flows (inputLabel s bs n) (labelOf s bs i)) (one h) ∙ h .no-flow))
+    where
+      one : (h : Hidden s bs i p) → j ≡ h .input
+      one h = omega (arith, h .from, h .to)
+
+  -- the same of the record sections
+  section-byte : (q : ℕ) → q < 6 * s .records .count → byte bs (s .records .offset + q) ≡ byte cs (s .records .offset + q)
+      → byte (recordBytesOf s bs) q ≡ byte (recordBytesOf s cs) q
+  section-byte q lt e = record-byte s bs q lt ∙ e ∙ sym (record-byte s cs q lt)
+
+  alike-from : (n j : ℕ) → j + n ≤ s .records .count
+      → AlikeInputs (λ l. flows l (labelOf s bs i)) (inputs (labelOf s bs) (recordBytesOf s bs) n (6 * j)) (inputs (labelOf s bs) (recordBytesOf s cs) n (6 * j))
+  unfolding inputs u32 u16
+  alike-from zero j le = tt
+  alike-from (suc n) j le = (
+    ap kindOf (section-byte (6 * j) (omega arith) (record-front j (recordAt s j) (omega arith) (omega arith))),
+    ap (labelOf s bs) (section-byte (6 * j + 1) (omega arith) (record-front j (s .records .offset + (6 * j + 1)) (omega arith) (omega arith))),
+    (λ f. cc (
+      digit f (6 * j + 2) (omega arith) (omega arith),
+      digit f (6 * j + 2 + 1) (omega arith) (omega arith),
+      digit f (6 * j + 2 + 2) (omega arith) (omega arith),
+      digit f (6 * j + 2 + 2 + 1) (omega arith) (omega arith),
+    )),
+    subst (λ (k : ℕ). AlikeInputs (λ l. flows l (labelOf s bs i)) (inputs (labelOf s bs) (recordBytesOf s bs) n k) (inputs (labelOf s bs) (recordBytesOf s cs) n k))
+        (omega arith) (alike-from n (suc j) (omega arith)),
+  )
+    where
+      digit : flows (labelOf s bs (byte (recordBytesOf s bs) (6 * j + 1))) (labelOf s bs i) ≡ true → (q : ℕ) → 6 * j ≤ q → q < 6 * j + 6
+          → byte (recordBytesOf s bs) q ≡ byte (recordBytesOf s cs) q
+      digit f q lo hi =
+          section-byte q (omega arith)
+          (record-whole j (s .records .offset + q) (omega arith) (omega arith)
+          (subst (λ (x : ℕ). flows (labelOf s bs x) (labelOf s bs i) ≡ true) (record-byte s bs (6 * j + 1) (omega arith) ∙ ap (byte bs) (omega arith)) f))
+
+  pub alike-inputs : AlikeInputs (λ l. flows l (labelOf s bs i)) (inputsOf s bs) (inputsOf s cs)
+  unfolding inputsOf
+  alike-inputs =
+      subst (λ (ls : ℕ → Label). AlikeInputs (λ l. flows l (labelOf s bs i)) (inputsOf s bs) (inputs ls (recordBytesOf s cs) (s .records .count) 0))
+      same-label (alike-from (s .records .count) 0 (omega arith))
+
+  -- what is hidden is hidden by either file's labels
+  hidden-other : (p : ℕ) → Hidden s bs i p → Hidden s cs i p
+  hidden-other p h =
+      record {
+        input = h .input;
+        counted = h .counted;
+        from = h .from;
+        to = h .to;
+        no-flow = subst (λ (ls : ℕ → Label). flows (ls (byte cs (recordAt s (h .input) + 1))) (ls i) ≡ false) same-label
+            (subst (λ (x : ℕ). flows (labelOf s bs x) (labelOf s bs i) ≡ false)
+            (record-front (h .input) (recordAt s (h .input) + 1) (omega arith) (omega arith)) (h .no-flow));
+      }
+
+-- ── two alike files of a kind ──
+
+module _ (legible : List ℕ → ℕ → Bool) (sections : List ℕ → Sections) (bs cs : List ℕ) (i : ℕ) (A : AlikeBy legible sections bs cs i) where
+  -- where 1 to 4, 6 or 8 applies to one of them, they are one file
+  pub one-or-legible : (G : List ℕ → Type 0) → G bs → (legible bs i ≡ true → legible cs i ≡ true → G cs) → G cs
+  one-or-legible G one both = test (legible bs i) (legible cs i) refl refl
+    where
+      equal : ¬ ((legible bs i ≡ true) × (legible cs i ≡ true)) → G cs
+      equal n = subst G (ext-getD 0 bs cs (A .sized) (λ p _. A .bytes p (λ (u, v, _). n (u, v)))) one
+
+      test : (s t : Bool) → legible bs i ≡ s → legible cs i ≡ t → G cs
+      test true true e f = both e f
+      test false t e f = equal (λ (u, v). true≢false (sym u ∙ e))
+      test true false e f = equal (λ (u, v). true≢false (sym v ∙ f))
+
+  pub same-but-hidden : legible bs i ≡ true → legible cs i ≡ true → (p : ℕ) → ¬ Hidden (sections bs) bs i p → byte bs p ≡ byte cs p
+  same-but-hidden lb lc p h = A .bytes p (λ (u, v, w). h w)
+
+  -- Alikeness is symmetric: what is hidden is hidden by either file's sections and labels.
+  pub alike-by-sym : (legible bs i ≡ true → legible cs i ≡ true → (sections bs .first ≤ sections bs .records .offset) × (sections bs ≡ sections cs))
+      → AlikeBy legible sections cs bs i
+  alike-by-sym same = record { sized = sym (A .sized); bytes = λ p n. sym (A .bytes p (λ (u, v, h). n (v, u, other p u v h))) }
+    where
+      other : (p : ℕ) → legible bs i ≡ true → legible cs i ≡ true → Hidden (sections bs) bs i p → Hidden (sections cs) cs i p
+      other p lb lc h =
+          subst (λ (s : Sections). Hidden s cs i p) (same lb lc .1)
+          (hidden-other bs cs (sections bs) i (A .sized) (same-but-hidden lb lc) (same lb lc .0) p h)
+
+-- ── two alike plain files ──
 
 -- none of 1 to 4, 6 and 8 stops the file
 pub legible-each : (bs : List ℕ) (i : ℕ) → legible bs i ≡ true
@@ -49,22 +159,16 @@ pub legible-each : (bs : List ℕ) (i : ℕ) → legible bs i ≡ true
 unfolding legible
 legible-each bs i e = every-each _ e
 
--- ── two alike files ──
-
 module _ (bs cs : List ℕ) (i : ℕ) (A : Alike bs cs i) (lb : legible bs i ≡ true) (lc : legible cs i ≡ true) where
-  same-byte : (p : ℕ) → ¬ Hidden bs i p → byte bs p ≡ byte cs p
-  same-byte p h = A .bytes p (λ (u, v, w). h w)
+  same-byte : (p : ℕ) → ¬ Hidden (sections bs) bs i p → byte bs p ≡ byte cs p
+  same-byte = same-but-hidden legible sections bs cs i A lb lc
 
-  ordered : Placed (header bs) (length bs)
+  in-order : Placed (header bs) (length bs)
   unfolding passes3
-  ordered = placed (header bs) (length bs) (legible-each bs i lb .1 .1 .0)
-
-  -- before the records
-  front : (p : ℕ) → p < header bs .records .offset → byte bs p ≡ byte cs p
-  front p lt = same-byte p (λ h. omega (arith, h .from))
+  in-order = placed (header bs) (length bs) (legible-each bs i lb .1 .1 .0)
 
   head : (p : ℕ) → p < 16 → byte bs p ≡ byte cs p
-  head p lt = front p (omega (arith, ordered .records))
+  head p lt = before-records bs cs (sections bs) i (A .sized) same-byte (in-order .records) p (omega (arith, in-order .records))
 
   pub same-header : header bs ≡ header cs
   unfolding header u16
@@ -88,92 +192,28 @@ module _ (bs cs : List ℕ) (i : ℕ) (A : Alike bs cs i) (lb : legible bs i ≡
         head 15 (lit< tt),
       )
 
-  pub same-labels : fileLabels bs ≡ fileLabels cs
-  unfolding labelsOf labelBytesOf
-  same-labels =
-      ap (readLabels (header bs .labels .count))
-      (same-slice bs cs (A .sized) 16 (header bs .records .offset - 16) (λ p _ lt. front p (omega (arith, ordered .records))))
-      ∙ ap (λ (h : Header). readLabels (h .labels .count) (take (h .records .offset - 16) (drop 16 cs))) same-header
+  same-sections : sections bs ≡ sections cs
+  same-sections = ap (λ (h : Header). record { first = 16; labels = h .labels .count; records = h .records }) same-header
 
-  pub same-label : labelAt bs ≡ labelAt cs
-  unfolding labelOf
-  same-label = ap {B = ℕ → Label} (λ (o : Option (List Label)) (p : ℕ). getD (orNone o) p (record { secrecy = 0; integrity = 0 })) same-labels
+  pub same-file-labels : fileLabels bs ≡ fileLabels cs
+  same-file-labels =
+      same-labels bs cs (sections bs) i (A .sized) same-byte (in-order .records) ∙ ap (λ (s : Sections). labelsOf s cs) same-sections
+
+  pub same-file-label : labelAt bs ≡ labelAt cs
+  same-file-label =
+      same-label bs cs (sections bs) i (A .sized) same-byte (in-order .records) ∙ ap (λ (s : Sections). labelOf s cs) same-sections
 
   pub same-code : codeBytes bs ≡ codeBytes cs
   unfolding codeBytes
   same-code =
-      same-drop bs cs (A .sized) (header bs .code .offset) (λ p le. same-byte p (λ h. omega (arith, h .counted, h .to, ordered .code)))
+      same-drop bs cs (A .sized) (header bs .code .offset)
+      (λ p le. behind-records bs cs (sections bs) i (A .sized) same-byte (in-order .records) p (omega (arith, in-order .code)))
       ∙ ap (λ (h : Header). drop (h .code .offset) cs) same-header
 
-  -- kind and label index of input record j
-  record-front : (j p : ℕ) → recordAt bs j ≤ p → p < recordAt bs j + 2 → byte bs p ≡ byte cs p
-  record-front j p lo hi = same-byte p (λ h. omega (arith, h .from, h .to))
-
-  -- all six bytes of it, if its label flows to the reading label
-  record-whole : (j p : ℕ) → recordAt bs j ≤ p → p < recordAt bs j + 6 → flows (inputLabel bs j) (labelAt bs i) ≡ true → byte bs p ≡ byte cs p
-  record-whole j p lo hi f = same-byte p (λ h. true≢false (sym f ∙ ap (λ (n : ℕ). flows (inputLabel bs n) (labelAt bs i)) (one h) ∙ h .no-flow))
-    where
-      one : (h : Hidden bs i p) → j ≡ h .input
-      one h = omega (arith, h .from, h .to)
-
-  -- the same of the record sections
-  section-byte : (q : ℕ) → q < 6 * header bs .records .count → byte bs (header bs .records .offset + q) ≡ byte cs (header bs .records .offset + q)
-      → byte (recordBytes bs) q ≡ byte (recordBytes cs) q
-  section-byte q lt e =
-      record-byte bs q lt ∙ e ∙ ap (λ (h : Header). byte cs (h .records .offset + q)) same-header
-      ∙ sym (record-byte cs q (subst (λ (h : Header). q < 6 * h .records .count) same-header lt))
-
-  alike-from : (n j : ℕ) → j + n ≤ header bs .records .count
-      → AlikeInputs (λ l. flows l (labelAt bs i)) (inputs (labelAt bs) (recordBytes bs) n (6 * j)) (inputs (labelAt bs) (recordBytes cs) n (6 * j))
-  unfolding inputs u32 u16
-  alike-from zero j le = tt
-  alike-from (suc n) j le = (
-    ap kindOf (section-byte (6 * j) (omega arith) (record-front j (recordAt bs j) (omega arith) (omega arith))),
-    ap (labelAt bs) (section-byte (6 * j + 1) (omega arith) (record-front j (header bs .records .offset + (6 * j + 1)) (omega arith) (omega arith))),
-    (λ f. cc (
-      digit f (6 * j + 2) (omega arith) (omega arith),
-      digit f (6 * j + 2 + 1) (omega arith) (omega arith),
-      digit f (6 * j + 2 + 2) (omega arith) (omega arith),
-      digit f (6 * j + 2 + 2 + 1) (omega arith) (omega arith),
-    )),
-    subst (λ (k : ℕ). AlikeInputs (λ l. flows l (labelAt bs i)) (inputs (labelAt bs) (recordBytes bs) n k) (inputs (labelAt bs) (recordBytes cs) n k))
-        (omega arith) (alike-from n (suc j) (omega arith)),
-  )
-    where
-      digit : flows (labelAt bs (byte (recordBytes bs) (6 * j + 1))) (labelAt bs i) ≡ true → (q : ℕ) → 6 * j ≤ q → q < 6 * j + 6
-          → byte (recordBytes bs) q ≡ byte (recordBytes cs) q
-      digit f q lo hi =
-          section-byte q (omega arith)
-          (record-whole j (header bs .records .offset + q) (omega arith) (omega arith)
-          (subst (λ (x : ℕ). flows (labelAt bs x) (labelAt bs i) ≡ true) (record-byte bs (6 * j + 1) (omega arith) ∙ ap (byte bs) (omega arith)) f))
-
-  pub alike-inputs : AlikeInputs (λ l. flows l (labelAt bs i)) (fileInputs bs) (fileInputs cs)
-  unfolding inputsOf
-  alike-inputs =
-      subst₂ (λ (ls : ℕ → Label) (n : ℕ). AlikeInputs (λ l. flows l (labelAt bs i)) (fileInputs bs) (inputs ls (recordBytes cs) n 0))
-      same-label (ap (λ (h : Header). h .records .count) same-header) (alike-from (header bs .records .count) 0 (omega arith))
-
--- ── alikeness is symmetric: what is hidden is hidden by either file's header and labels ──
-
-hidden-sym : (bs cs : List ℕ) (i : ℕ) → Alike bs cs i → legible bs i ≡ true → legible cs i ≡ true → (p : ℕ) → Hidden bs i p → Hidden cs i p
-hidden-sym bs cs i A lb lc p h =
-    record {
-      input = h .input;
-      counted = subst (λ (x : Header). h .input < x .records .count) he (h .counted);
-      from = subst (λ (x : Header). x .records .offset + 6 * h .input + 2 ≤ p) he (h .from);
-      to = subst (λ (x : Header). p < x .records .offset + 6 * h .input + 6) he (h .to);
-      no-flow = subst (λ (ls : ℕ → Label). flows (ls (byte cs (recordAt cs (h .input) + 1))) (ls i) ≡ false) (same-label bs cs i A lb lc)
-          (subst (λ (x : ℕ). flows (labelAt bs x) (labelAt bs i) ≡ false) index (h .no-flow));
-    }
-  where
-    he : header bs ≡ header cs
-    he = same-header bs cs i A lb lc
-
-    index : byte bs (recordAt bs (h .input) + 1) ≡ byte cs (recordAt cs (h .input) + 1)
-    index =
-        record-front bs cs i A lb lc (h .input) (recordAt bs (h .input) + 1) (omega arith) (omega arith)
-        ∙ ap (λ (x : Header). byte cs (x .records .offset + 6 * h .input + 1)) he
+  pub alike-file-inputs : AlikeInputs (λ l. flows l (labelAt bs i)) (fileInputs bs) (fileInputs cs)
+  alike-file-inputs =
+      subst (λ (s : Sections). AlikeInputs (λ l. flows l (labelAt bs i)) (fileInputs bs) (inputsOf s cs)) same-sections
+      (alike-inputs bs cs (sections bs) i (A .sized) same-byte (in-order .records))
 
 pub alike-sym : (bs cs : List ℕ) (i : ℕ) → Alike bs cs i → Alike cs bs i
-alike-sym bs cs i A =
-    record { sized = sym (A .sized); bytes = λ p n. sym (A .bytes p (λ (u, v, h). n (v, u, hidden-sym bs cs i A u v p h))) }
+alike-sym bs cs i A = alike-by-sym legible sections bs cs i A (λ lb lc. (in-order bs cs i A lb lc .records, same-sections bs cs i A lb lc))

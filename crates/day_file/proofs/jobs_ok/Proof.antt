@@ -70,8 +70,8 @@ module _ (h : Head) where
   abbrev at : ℕ
   at = hd begun .jobs .offset + 12 * h .loop .i
 
-few : (p : In) → at (search) + 20 < 2 ^ 17
-few p = let h : Head = search in let e : tie.Else2 Inv-loop μ-loop = search in omega (arith, p .loop-test .taken, e .if2 .left, begun h .pre .0 .jobs .offset)
+few : (p : In) → at (search) < 2 ^ 20
+few p = let h : Head = search in let r = begun h .pre .0 .jobs in omega (arith, p .loop-test .taken, r .count, r .offset)
 
 finds : (a : tie.After-job-ok Inv-loop μ-loop) → test (begun (search)) (jobFrom (bs (begun (search))) (at (search))) ≡ a .job-ok .result
 finds a = let h : Head = search in let j : tie.After-job-at Inv-loop μ-loop = search in sym (a .job-ok .ensures ∙ ap (test (begun h)) (j .job-at .ensures .0))
@@ -91,23 +91,20 @@ job-refused : tie.Need-returns-3 Inv-loop μ-loop
 job-refused c =
     let p : In = search in
     let h : Head = search in
-    let s = begun h in
-    sym (one-stops (test s) (bs s) (n s) (hd s .jobs .offset) (h .loop .inv) (p .loop-test .taken) (finds (search) ∙ not-true _ (c .if3 .taken)))
+    sym (one-stops (h .loop .inv) (p .loop-test .taken) (finds (search) ∙ not-true _ (c .if3 .taken)))
     ∙ last (few-jobs (search))
 
 loop-again : tie.Need-loop-again Inv-loop μ-loop
 loop-again c =
     let p : In = search in
     let h : Head = search in
-    let s = begun h in
-    one-less (test s) (bs s) (n s) (hd s .jobs .offset) (h .loop .inv) (p .loop-test .taken) (finds (search) ∙ not-false _ (c .if3 .left))
+    one-less (h .loop .inv) (p .loop-test .taken) (finds (search) ∙ not-false _ (c .if3 .left))
 
 all-passed : tie.Need-returns-4 Inv-loop μ-loop
 all-passed c =
     let o : tie.After-loop Inv-loop μ-loop = search in
     let h : Head = search in
-    let s = begun h in
-    sym (none-left (test s) (bs s) (n s) (hd s .jobs .offset) (h .loop .inv) (o .loop-test .left)) ∙ last (few-jobs (search))
+    sym (none-left (h .loop .inv) (o .loop-test .left)) ∙ last (few-jobs (search))
 
 pub jobs-ok-spec : {M : Type 1} → statement M
 jobs-ok-spec =

@@ -79,33 +79,6 @@ finds a =
 loop-holds : tie.Need-loop-holds Inv-loop μ-loop
 loop-holds c = let s : Begun = search in all-left (spanOk (bs s)) (bs s) (hd s .jobs .count) (hd s .jobs .offset)
 
-mul-job-at : tie.Need-mul-job-at Inv-loop μ-loop
-mul-job-at c = omega (arith, few (search))
-
-add-job-at : tie.Need-add-job-at Inv-loop μ-loop
-add-job-at c = omega (arith, few (search))
-
-job-at-requires : tie.Need-job-at-requires Inv-loop μ-loop
-job-at-requires c κs = omega (arith, few (search))
-
-add-start : tie.Need-add-start Inv-loop μ-loop
-add-start c = omega (arith, spanned (search) .ends)
-
-add-end : tie.Need-add-end Inv-loop μ-loop
-add-end c = omega (arith, spanned (search) .ends)
-
-sub-code-ok : tie.Need-sub-code-ok Inv-loop μ-loop
-sub-code-ok c = omega arith
-
-part-code-ok-start : tie.Need-part-code-ok-start Inv-loop μ-loop
-part-code-ok-start c = omega arith
-
-part-code-ok-end : tie.Need-part-code-ok-end Inv-loop μ-loop
-part-code-ok-end c = omega (arith, spanned (search) .ends)
-
-code-ok-requires : tie.Need-code-ok-requires Inv-loop μ-loop
-code-ok-requires c κs = simp (length-take, length-drop) (omega (arith, spanned (search) .short))
-
 span-refused : tie.Need-returns Inv-loop μ-loop
 span-refused c =
     let p : In = search in
@@ -113,21 +86,20 @@ span-refused c =
     let s = begun h in
     sym
     (finds7 (bs s) (hd s) (s .pre .1)
-    (one-stops (spanOk (bs s)) (bs s) (hd s .jobs .count) (hd s .jobs .offset) (h .loop .inv) (p .loop-test .taken) (finds (search) ∙ not-true _ (c .if1 .taken))))
+    (one-stops (h .loop .inv) (p .loop-test .taken) (finds (search) ∙ not-true _ (c .if1 .taken))))
 
 loop-again : tie.Need-loop-again Inv-loop μ-loop
 loop-again c =
     let p : In = search in
     let h : Head = search in
-    let s = begun h in
-    one-less (spanOk (bs s)) (bs s) (hd s .jobs .count) (hd s .jobs .offset) (h .loop .inv) (p .loop-test .taken) (finds (search) ∙ not-false _ (c .if1 .left))
+    one-less (h .loop .inv) (p .loop-test .taken) (finds (search) ∙ not-false _ (c .if1 .left))
 
 all-passed : tie.Need-returns-2 Inv-loop μ-loop
 all-passed c =
     let o : tie.After-loop Inv-loop μ-loop = search in
     let h : Head = search in
     let s = begun h in
-    sym (finds7 (bs s) (hd s) (s .pre .1) (none-left (spanOk (bs s)) (bs s) (hd s .jobs .count) (hd s .jobs .offset) (h .loop .inv) (o .loop-test .left)))
+    sym (finds7 (bs s) (hd s) (s .pre .1) (none-left (h .loop .inv) (o .loop-test .left)))
 
 pub spans-ok-spec : {M : Type 1} → statement M
 spans-ok-spec =
@@ -136,15 +108,15 @@ spans-ok-spec =
     Inv-loop
     μ-loop
     loop-holds
-    mul-job-at
-    add-job-at
-    job-at-requires
-    add-start
-    add-end
-    sub-code-ok
-    part-code-ok-start
-    part-code-ok-end
-    code-ok-requires
+    (λ c. omega (arith, few (search)))
+    (λ c. omega (arith, few (search)))
+    (λ c κs. omega (arith, few (search)))
+    (λ c. omega (arith, spanned (search) .ends))
+    (λ c. omega (arith, spanned (search) .ends))
+    (λ c. omega arith)
+    (λ c. omega arith)
+    (λ c. omega (arith, spanned (search) .ends))
+    (λ c κs. simp (length-take, length-drop) (omega (arith, spanned (search) .short)))
     span-refused
     (λ c. omega (arith, few (search)))
     (λ c. let p : In = search in omega (arith, p .loop-test .taken))

@@ -1,0 +1,145 @@
+-- The end of a job: no place from C on is taken, and an observer sees of two stores what it saw, the handles that lead
+-- nowhere being faults in both.
+use mathlib.Core.Bool.{Bool, true, false}
+use mathlib.Core.List.{List, [], _∷_}
+use mathlib.Core.Path.{_≡_, refl, sym, ap, _∙_, subst}
+use Prim.Native.Nat.{ℕ, zero, suc, _+_, _≤_, _<_}
+use native.Mathlib.Omega.{arith}
+use lib.Dec.{leb, ltb}
+use borrow.Author.Tests.{leb-false, lt-ltb, le-ltb}
+use lib.ListN.{length}
+use Rattle.labels.specs.declared.Label.{Label}
+use Rattle.model.specs.State.{Store, Program, at, shown}
+use Rattle.model.specs.Inputs.{Input, handles}
+use Rattle.model.specs.declared.Datum.{Datum}
+use Rattle.model.specs.declared.Datum.the-variants.{Number, Label as Labelled, Handle}
+use Rattle.model.specs.declared.Contents.{Contents}
+use Rattle.model.specs.declared.Contents.the-variants.{Value as Holds, Fault}
+use Rattle.model.specs.declared.Slot.{Slot}
+use Rattle.model.specs.declared.Slot.the-variants.{Empty, Full}
+use Rattle.model.proofs.Tests.{cond-one}
+use Rattle.model.proofs.Kept.{shell}
+use Rattle.model.proofs.Plans.{All}
+use Rattle.model.proofs.LowEquivalence.{Twin, SharedContents, SharedSlot, LowEquivalent}
+use Rattle.day.specs.JobEnd.{keptDatum, keptContents, keptSlot, endSlot, endFrom, endJob}
+
+-- ── place by place ──
+
+pub end-length : (c p : ℕ) (σ : Store) → length (endFrom c p σ) ≡ length σ
+unfolding endFrom
+end-length c p [] = refl
+end-length c p (x ∷ σ) = ap suc (end-length c (suc p) σ)
+
+end-empty : (c p : ℕ) → endSlot c p Empty ≡ Empty
+unfolding endSlot keptSlot
+end-empty c p = cond-one (λ (x : Slot). x ≡ Empty) (ltb p c) (λ _. refl) (λ _. refl)
+
+end-at-from : (c k : ℕ) (σ : Store) (p : ℕ) → at (endFrom c k σ) p ≡ endSlot c (k + p) (at σ p)
+unfolding endFrom
+end-at-from c k [] p = sym (end-empty c (k + p))
+end-at-from c k (x ∷ σ) zero = ap (λ (q : ℕ). endSlot c q x) (omega arith)
+end-at-from c k (x ∷ σ) (suc p) = end-at-from c (suc k) σ p ∙ ap (λ (q : ℕ). endSlot c q (at σ p)) (omega arith)
+
+pub end-at : (c : ℕ) (σ : Store) (p : ℕ) → at (endJob c σ) p ≡ endSlot c p (at σ p)
+end-at c σ p = end-at-from c 0 σ p ∙ ap (λ (q : ℕ). endSlot c q (at σ p)) (omega arith)
+
+-- an input's place, and any other
+slot-kept : (c p : ℕ) (x : Slot) → p < c → endSlot c p x ≡ keptSlot c x
+unfolding endSlot
+slot-kept c p x lt = rw (lt-ltb p c lt)
+
+slot-gone : (c p : ℕ) (x : Slot) → c ≤ p → endSlot c p x ≡ Empty
+unfolding endSlot
+slot-gone c p x le = rw (le-ltb p c le)
+
+-- ── no place from c on is taken ──
+
+-- of the 256 places of a store
+abbrev pub Free : ℕ → Store → Type 0
+Free c σ = (p : ℕ) → c ≤ p → p < 256 → (p < length σ) × (at σ p ≡ Empty)
+
+pub end-free : (c : ℕ) (σ τ : Store) → Free c σ → length σ ≡ length τ → Free c (endJob c τ)
+end-free c σ τ f sized p le lt =
+    let there = f p le lt .0 in
+    (rw (end-length c 0 τ) (omega arith), end-at c τ p ∙ slot-gone c p (at τ p) le)
+
+-- ── what an observer sees ──
+
+-- a record keeps its kind and label
+kept-shell : (c : ℕ) (x : Slot) → shell (keptSlot c x) ≡ shell x
+unfolding shell keptSlot
+kept-shell c Empty = refl
+kept-shell c (Full r) = refl
+
+kept-shown : (Low : Label → Bool) (c : ℕ) (x : Slot) → shown Low (keptSlot c x) ≡ keptSlot c (shown Low x)
+unfolding shown keptSlot
+kept-shown Low c Empty = refl
+kept-shown Low c (Full r) = test (Low (r .label)) refl
+  where
+    test : (t : Bool) → Low (r .label) ≡ t → shown Low (keptSlot c (Full r)) ≡ keptSlot c (shown Low (Full r))
+    test true e = rw e
+    test false e = rw e
+
+pub end-shown : (Low : Label → Bool) (c p : ℕ) (x : Slot) → shown Low (endSlot c p x) ≡ endSlot c p (shown Low x)
+unfolding endSlot shown
+end-shown Low c p x = test (ltb p c) refl
+  where
+    test : (t : Bool) → ltb p c ≡ t → shown Low (endSlot c p x) ≡ endSlot c p (shown Low x)
+    test true e = rw e (kept-shown Low c x)
+    test false e = rw e
+
+-- ── two stores ──
+
+module _ (c : ℕ) (σ τ : Store) where
+  -- inputs that are twins stay twins
+  end-twin : (p : ℕ) → p < c → Twin σ τ p → Twin (endJob c σ) (endJob c τ) p
+  end-twin p lt (full, same) = (λ e. full (sym (one σ) ∙ e), one σ ∙ same ∙ sym (one τ))
+    where
+      one : (ρ : Store) → shell (at (endJob c ρ) p) ≡ shell (at ρ p)
+      one ρ = ap shell (end-at c ρ p ∙ slot-kept c p (at ρ p) lt) ∙ kept-shell c (at ρ p)
+
+  -- a handle that is kept is to an input
+  datum-shared : (d : Datum) → SharedContents σ τ (Holds d) → SharedContents (endJob c σ) (endJob c τ) (keptDatum c d)
+  unfolding keptDatum
+  datum-shared (Number n) h = tt
+  datum-shared (Labelled l) h = tt
+  datum-shared (Handle k p) h =
+      cond-one (SharedContents (endJob c σ) (endJob c τ)) (leb c p) (λ _. tt) (λ e. end-twin p (leb-false c p e) h)
+
+  contents-shared : (x : Contents) → SharedContents σ τ x → SharedContents (endJob c σ) (endJob c τ) (keptContents c x)
+  unfolding keptContents
+  contents-shared (Holds d) h = datum-shared d h
+  contents-shared (Fault code n) h = tt
+
+  slot-shared : (x : Slot) → SharedSlot σ τ x → SharedSlot (endJob c σ) (endJob c τ) (keptSlot c x)
+  unfolding keptSlot
+  slot-shared Empty h = tt
+  slot-shared (Full r) h = contents-shared (r .contents) h
+
+  end-shared : (p : ℕ) (x : Slot) → SharedSlot σ τ x → SharedSlot (endJob c σ) (endJob c τ) (endSlot c p x)
+  unfolding endSlot
+  end-shared p x h = cond-one (SharedSlot (endJob c σ) (endJob c τ)) (ltb p c) (λ _. slot-shared x h) (λ _. tt)
+
+  -- the inputs' handles are to places below c
+  end-handles : (k : ℕ) (xs : List Input) → k + length xs ≤ c → All (Twin σ τ) (handles k xs) → All (Twin (endJob c σ) (endJob c τ)) (handles k xs)
+  unfolding handles
+  end-handles k [] le h = tt
+  end-handles k (x ∷ xs) le h = (end-twin k (omega arith) (h .0), end-handles (suc k) xs (omega arith) (h .1))
+
+  -- Stores that an observer can't tell apart are still so when the job has ended.
+  pub end-equivalent : (P Q : Program) (Low : Label → Bool) (xs : List Input) → P .inputs ≡ handles 0 xs → Q .inputs ≡ handles 0 xs → length xs ≡ c
+      → LowEquivalent P Low σ τ → LowEquivalent Q Low (endJob c σ) (endJob c τ)
+  end-equivalent P Q Low xs p q n s =
+      record {
+        alike = λ i. seen σ i ∙ ap (endSlot c i) (s .alike i) ∙ sym (seen τ i);
+        shared = λ i. subst (SharedSlot (endJob c σ) (endJob c τ)) (sym (seen σ i)) (end-shared i (shown Low (at σ i)) (s .shared i));
+        inputs = rw q (end-handles 0 xs (omega arith) (rw p at (s .inputs)));
+        sized = end-length c 0 σ ∙ s .sized ∙ sym (end-length c 0 τ);
+      }
+    where
+      seen : (ρ : Store) (i : ℕ) → shown Low (at (endJob c ρ) i) ≡ endSlot c i (shown Low (at ρ i))
+      seen ρ i = ap (shown Low) (end-at c ρ i) ∙ end-shown Low c i (at ρ i)
+
+-- equivalence asks of a program no more than its inputs
+pub other-program : (P Q : Program) (Low : Label → Bool) (σ τ : Store) → P .inputs ≡ Q .inputs → LowEquivalent P Low σ τ → LowEquivalent Q Low σ τ
+other-program P Q Low σ τ e s = record { alike = s .alike; shared = s .shared; inputs = rw e at (s .inputs); sized = s .sized }
