@@ -1,9 +1,9 @@
 -- `lines::write_refused` meets its contract. Assumes nothing.
-use mathlib.Core.Path.{_≡_, refl, sym, ap, _∙_}
-use mathlib.Core.List.{List, [], _∷_, _++_}
+use mathlib.Core.Path.{refl, sym, ap}
+use mathlib.Core.List.{[], _∷_}
 use native.Mathlib.Omega.{arith}
-use Prim.Native.Nat.{ℕ, _+_, _-_, _≤_, _<_}
-use lib.ListN.{length, set, length-set}
+use Prim.Native.Nat.{ℕ, _+_, _-_, _≤_}
+use lib.ListN.{length, set}
 use Rattle.lines.specs.Lines.{refusedLine}
 use Rattle.lines.proofs.Printing.{refusedText, refused-short, refused-long}
 use Rattle.view_fields.proofs.Buffers.{Writing, first, byte, piece, ends, two, room-for}
