@@ -132,7 +132,7 @@ pub fn run_job(file: &[u8], h: Header, labels: &[u64], job: Job, store: &mut [u6
 // The ending that the view of a skipped job tells.
 const SKIPPED: u64 = 4;
 
-fn write_skipped(out: &mut [u8])
+pub fn write_skipped(out: &mut [u8])
     requires { ⌜ 62 ≤ length (now out) ⌝ }
     ensures { λ _. ⌜ now (out .exit) ≡ over skippedView (now (out .entry)) ⌝ }
 {
