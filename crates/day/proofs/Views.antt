@@ -137,8 +137,8 @@ module _ (Reads : Label → Bool) (bs : List ℕ) (j : Job) (σ : Store) (f : Fi
   pub served-view : view Reads (j .steps) (finished f (slots ran)) ≡ view Reads (j .steps) (jobRun bs j σ)
   served-view =
       sym (
-        view-finished Reads (j .steps) (jobRun bs j σ) f (fin .ending) (fin .label) (fin .clearance) (fin .steps) (fin .next)
-        ∙ ap (λ (τ : Store). view Reads (j .steps) (finished f τ)) (fin .store)
+      view-finished Reads (j .steps) (jobRun bs j σ) f (fin .ending) (fin .label) (fin .clearance) (fin .steps) (fin .next)
+      ∙ ap (λ (τ : Store). view Reads (j .steps) (finished f τ)) (fin .store)
       )
 
   pub served-store : (c : ℕ) → c ≡ dayHeader bs .records .count → (next : List ℕ) → slots next ≡ endJob c (slots ran) → slots next ≡ storeAfter bs j σ

@@ -1,18 +1,15 @@
 -- `day::most_bytes` meets its contract: what is left of the jobs makes the rest of the sum.
 use mathlib.Core.List.{List}
-use mathlib.Core.Path.{_≡_, sym, ap, subst, _∙_}
+use mathlib.Core.Path.{_≡_, ap, _∙_}
 use Prim.Native.Nat.{ℕ, _+_, _-_, _*_, _≤_, _<_}
 use native.Mathlib.Omega.{arith}
-use lib.ListN.{length}
 use Rattle.day_file.specs.declared.Header.{Header}
 use Rattle.day_file.specs.declared.Job.{Job}
 use Rattle.day_file.specs.Sections.{jobsFrom}
-use Rattle.day_file.specs.Checks.{dayRefusal}
 use Rattle.day_file.proofs.Answers.{few-jobs, in-place, job-fits}
 use Rattle.day_file.proofs.Answers as answers
 use Rattle.day.specs.Parts.{mostBytes}
 use Rattle.day.proofs.Turns.{jobsLeft, job, all-left, most-here, most-nothing}
-use borrow.Author.Needs.{needs}
 use Rattle.day.proofs.most_bytes.Statement.{statement}
 use Rattle.day.proofs.most_bytes.Tie as tie
 

@@ -1,48 +1,44 @@
+-- `day::read_loaded` meets its contract.
+use mathlib.Core.Path.{sym, _∙_}
+use native.Mathlib.Omega.{arith}
+use borrow.Author.Tests.{not-true, not-false}
+use Rattle.day.proofs.Answers.{read-unlisted, read-short, read-shown}
 use borrow.Author.Needs.{needs}
 use Rattle.day.proofs.read_loaded.Statement.{statement}
 use Rattle.day.proofs.read_loaded.Tie as tie
-use Rattle.day.proofs.read_loaded.Reads as reads
-use Rattle.day.proofs.read_loaded.Lts as lts
-use Rattle.day.proofs.views_fit.Reads as views-fit-reads
-use Rattle.day.proofs.write_views.Reads as write-views-reads
-use Rattle.operands.proofs.label_at.Reads as label-at-reads
 
--- src/lib.rt:280:9
-returns : tie.Need-returns
-returns c = ?
+unlisted : tie.Need-returns
+unlisted c = let b : tie.Start = search in read-unlisted _ _ _ (b .pre .0) _ _ (omega (arith, c .if1 .taken))
 
--- src/lib.rt:282:9
-label-at-requires : tie.Need-label-at-requires
-label-at-requires c κs = search needs
+module _ (l : tie.After-label-at) where
+  abbrev begun : tie.Start
+  begun = search
 
--- src/lib.rt:283:9
-views-fit-requires : tie.Need-views-fit-requires
-views-fit-requires c κs = search needs
+short : tie.Need-returns-2
+short c =
+    let f : tie.After-views-fit = search in
+    let l : tie.After-label-at = search in
+    let e : tie.Else1 = search in
+    read-short _ _ _ (begun l .pre .0) _ _ _ (omega (arith, e .if1 .left)) (l .label-at .ensures) (sym (f .views-fit .ensures) ∙ not-true _ (c .if2 .taken))
 
--- src/lib.rt:284:9
-returns-2 : tie.Need-returns-2
-returns-2 c = ?
-
--- src/lib.rt:286:20
-write-views-requires : tie.Need-write-views-requires
-write-views-requires c κs = search needs
-
--- src/lib.rt:268:1
-same-length : tie.Need-same-length
-same-length c = search needs
-
--- src/lib.rt:268:1
-returns-3 : tie.Need-returns-3
-returns-3 c = ?
+shown : tie.Need-returns-3
+shown c =
+    let w : tie.After-write-views = search in
+    let t : tie.Else2 = search in
+    let f : tie.After-views-fit = search in
+    let l : tie.After-label-at = search in
+    let e : tie.Else1 = search in
+    read-shown _ _ _ (begun l .pre .0) _ _ _ (omega (arith, e .if1 .left)) (l .label-at .ensures) (sym (f .views-fit .ensures) ∙ not-false _ (t .if2 .left))
+    _ _ (w .write-views .ensures .0) (w .write-views .ensures .1)
 
 pub read-loaded-spec : {M : Type 1} → statement M
 read-loaded-spec =
     tie.close
     (tie.spec
-    returns
-    label-at-requires
-    views-fit-requires
-    returns-2
-    write-views-requires
-    same-length
-    returns-3)
+    unlisted
+    (λ c κs. let b : tie.Start = search in omega (arith, b .pre .1))
+    (λ c κs. let l : tie.After-label-at = search in begun l .pre)
+    short
+    (λ c κs. let l : tie.After-label-at = search in begun l .pre)
+    (search needs)
+    shown)

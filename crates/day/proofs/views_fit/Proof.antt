@@ -1,26 +1,25 @@
-use borrow.Author.Needs.{needs}
+-- `day::views_fit` meets its contract.
+use mathlib.Core.Path.{sym, ap}
+use native.Mathlib.Omega.{arith}
+use borrow.Author.Tests.{le-leb}
+use lib.Dec.{leb}
+use Prim.Native.Nat.{ℕ}
+use Rattle.view.specs.Writing.{observes}
+use Rattle.day.proofs.Between.{day-most}
 use Rattle.day.proofs.views_fit.Statement.{statement}
 use Rattle.day.proofs.views_fit.Tie as tie
-use Rattle.day.proofs.views_fit.Reads as reads
-use Rattle.day.proofs.views_fit.Lts as lts
-use Rattle.day.proofs.most_bytes.Reads as most-bytes-reads
-use Rattle.day.proofs.views_length.Reads as views-length-reads
 
--- src/lib.rt:261:8
 most-bytes-requires : tie.Need-most-bytes-requires
-most-bytes-requires c κs = search needs
+most-bytes-requires c κs = let b : tie.Start = search in (b .pre .0 .numbers, b .pre .0 .none)
 
--- src/lib.rt:262:9
-returns : tie.Need-returns
-returns c = ?
+most-fits : tie.Need-returns
+most-fits c =
+    let m : tie.After-most-bytes = search in
+    let b : tie.Start = search in
+    sym (le-leb _ (b .args .room) (omega (arith, day-most (b .args .file .now) (b .pre .0 .none) (observes (b .args .reader)), m .most-bytes .ensures, c .if1 .taken)))
 
--- src/lib.rt:264:5
-views-length-requires : tie.Need-views-length-requires
-views-length-requires c κs = search needs
-
--- src/lib.rt:257:1
-returns-2 : tie.Need-returns-2
-returns-2 c = ?
+measured : tie.Need-returns-2
+measured c = let b : tie.Start = search in ap (λ (n : ℕ). leb n (b .args .room)) (c .views-length .ensures)
 
 pub views-fit-spec : {M : Type 1} → statement M
-views-fit-spec = tie.close (tie.spec most-bytes-requires returns views-length-requires returns-2)
+views-fit-spec = tie.close (tie.spec most-bytes-requires most-fits (λ c κs. let b : tie.Start = search in b .pre) measured)
