@@ -1,8 +1,8 @@
--- `corpus::main` is safe and ends.
+-- `batches::print_batch` is safe and ends.
 use Prim.Native.Nat.{_≤_}
 use borrow.Author.Needs.{needs}
-use Rattle.corpus.proofs.main.Statement.{statement}
-use Rattle.corpus.proofs.main.Tie as tie
+use Rattle.batches.proofs.print_batch.Statement.{statement}
+use Rattle.batches.proofs.print_batch.Tie as tie
 
 abbrev Inv-loop : tie.InvT-loop
 Inv-loop turns₀ turns = turns ≤ 1000000
@@ -10,8 +10,8 @@ Inv-loop turns₀ turns = turns ≤ 1000000
 abbrev μ-loop : tie.MeasureT-loop
 μ-loop turns₀ turns = turns
 
-pub main-spec : {M : Type 1} → statement M
-main-spec =
+pub print-batch-spec : {M : Type 1} → statement M
+print-batch-spec =
     tie.close
     (tie.spec
     Inv-loop

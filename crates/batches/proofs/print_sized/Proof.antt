@@ -1,10 +1,10 @@
--- `corpus::print_sized` is safe and ends.
+-- `batches::print_sized` is safe and ends.
 use mathlib.Core.Path.{sym}
 use native.Mathlib.Omega.{arith}
 use lib.Seq.{length-take-le}
 use borrow.Author.Needs.{needs}
-use Rattle.corpus.proofs.print_sized.Statement.{statement}
-use Rattle.corpus.proofs.print_sized.Tie as tie
+use Rattle.batches.proofs.print_sized.Statement.{statement}
+use Rattle.batches.proofs.print_sized.Tie as tie
 
 slice-aggregate-part : tie.Need-slice-aggregate-part
 slice-aggregate-part c = let e : tie.Else1 = search in sym (length-take-le _ _ (omega (arith, e .if1 .left)))

@@ -1,0 +1,4 @@
+// Prints the lines of each day of a batch.
+fn main() {
+    batches::print_batch(true);
+}
