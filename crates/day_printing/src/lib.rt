@@ -4,9 +4,10 @@ use day_file::Loaded;
 use day_lines::ROOM;
 use libc::STDOUT_FILENO;
 ghost use mathlib.Core.Path.{_≡_};
-ghost use Prim.Native.Nat.{_<_};
+ghost use Prim.Native.Nat.{_≤_, _<_};
 ghost use lib.ListN.{length};
 ghost use Rattle.day_file.specs.Parts.{DayLoads};
+ghost use Rattle.day_lines.specs.Room.{mostDayLines};
 
 fn print_refused(n: u8) -> bool
     requires { ⌜ n < 20 ⌝ }
@@ -17,15 +18,14 @@ fn print_refused(n: u8) -> bool
 }
 
 // Prints the lines of a day that loads, one label behind the other, so that the buffer need only hold a label's.
-fn print_labels(file: &[u8], h: Header, labels: &[u64]) -> bool
-    requires { ⌜ DayLoads (now file) h (now labels) × (length (now labels) ≡ 64) ⌝ }
+fn print_labels(file: &[u8], h: Header, labels: &[u64], out: &mut [u8]) -> bool
+    requires { ⌜ DayLoads (now file) h (now labels) × (length (now labels) ≡ 64) × (mostDayLines ≤ length (now out)) ⌝ }
 {
     let listed = h.labels;
     let count = listed.count;
-    let mut out = [0u8; ROOM];
     let mut i = 0;
     while i < count {
-        let n = day_lines::write_day_lines(file, h, labels, i, &mut out);
+        let n = day_lines::write_day_lines(file, h, labels, i, out);
         if !io::write_all(STDOUT_FILENO, &out[..n]) {
             return false;
         }
@@ -40,6 +40,9 @@ pub fn print_day(file: &[u8]) -> bool {
     let loaded = day_file::load_day(file, &mut labels);
     match loaded {
         Loaded::Refused(n) => print_refused(n as u8),
-        Loaded::Day(h) => print_labels(file, h, &labels),
+        Loaded::Day(h) => {
+            let mut out = [0u8; ROOM];
+            print_labels(file, h, &labels, &mut out)
+        }
     }
 }
