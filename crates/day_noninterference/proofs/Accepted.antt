@@ -24,8 +24,9 @@ use Rattle.day_file.proofs.Tests.{AllJobs, all-map}
 use Rattle.day_file.proofs.Answers.{within-limits, in-place, jobs-fit, spans-fit}
 use Rattle.day.specs.Running.{jobProgram, jobAccount, jobRun, storeAfter, Turn, skipped, ran, turns, admitted, dayTurns}
 use Rattle.day.specs.Views.{skippedView, turnView}
+use Rattle.day.proofs.JobEnd.{length-end}
 use Rattle.noninterference.proofs.Accepted.{OnCode, every-label, reached-on-code, start-closed}
-use Rattle.day_noninterference.proofs.JobEnd.{Free, end-length, other-program}
+use Rattle.day_noninterference.proofs.JobEnd.{Free, other-program}
 use Rattle.day_noninterference.proofs.Turns.{Between, betweenJobs, count-inputs, start-free, job-fresh, job-sized, after-free, after-between}
 
 -- ── the states between jobs ──
@@ -116,7 +117,7 @@ module _ (bs : List ℕ) (i : ℕ) where
       let k = job-sized bs anyLabel D j (fit .0) σ free in (
         length-field-places (λ l. flows l (dayLabel bs i)) (j .steps) (jobRun bs j σ) (omega (arith, k)),
         turn-lengths js ads (storeAfter bs j σ) (fit .1) (after-free bs anyLabel D j (fit .0) σ free)
-            (end-length (dayHeader bs .records .count) 0 (jobRun bs j σ .store) ∙ sym k ∙ n),
+            (length-end (dayHeader bs .records .count) 0 (jobRun bs j σ .store) ∙ sym k ∙ n),
       )
   turn-lengths (j ∷ js) (false ∷ ads) σ fit free n = (skipped-length, turn-lengths js ads σ (fit .1) free n)
 
