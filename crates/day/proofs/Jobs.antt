@@ -14,10 +14,10 @@ use Rattle.operands.specs.Program.{count, program}
 use Rattle.file_sections.specs.Sections.{recordBytesOf, inputsOf}
 use Rattle.day_file.specs.declared.Header.{Header}
 use Rattle.day_file.specs.declared.Job.{Job}
-use Rattle.day_file.specs.Sections.{dayHeader, daySections, dayLabel, span}
+use Rattle.day_file.specs.Sections.{daySections, dayLabel, jobFrom, span}
 use Rattle.day_file.specs.Parts.{DayLoads}
-use Rattle.day_file.proofs.Limits.{Counted, Placed}
-use Rattle.day_file.proofs.Answers.{within-limits, in-place, day-labels}
+use Rattle.day_file.proofs.Limits.{Counted, Placed, Fits}
+use Rattle.day_file.proofs.Answers.{within-limits, in-place, day-labels, job-fits}
 use Rattle.day.specs.Running.{jobProgram, jobAccount, jobRun}
 use Rattle.day.specs.Parts.{Runnable}
 
@@ -35,7 +35,7 @@ module _ (bs : List ℕ) (h : Header) (ws : List ℕ) (w : DayLoads bs h ws) whe
   pub ordered : Placed h (length bs)
   ordered = rw (w .numbers) (in-place bs (w .none))
 
-  labels-are : labelIn ws ≡ dayLabel bs
+  pub labels-are : labelIn ws ≡ dayLabel bs
   labels-are = rw (w .labels) (day-labels bs (w .none))
 
   pub records-are : recordsIn h bs ≡ recordBytesOf (daySections bs) bs
@@ -78,3 +78,14 @@ module _ (bs : List ℕ) (h : Header) (ws : List ℕ) (w : DayLoads bs h ws) whe
 
     pub span-short : j .length < 2 ^ 16 → length (spanIn h j bs) < 2 ^ 16
     span-short s = simp (length-take, length-drop) (omega arith)
+
+  -- job k is one that the code can run
+  pub job-runs : (k : ℕ) → k < h .jobs .count → Runnable h (jobFrom bs (h .jobs .offset + 12 * k)) bs
+  job-runs k small =
+      let f : Fits h (dayLabel bs) (jobFrom bs (h .jobs .offset + 12 * k)) = rw (w .numbers) (job-fits bs (w .none) k (rw (← w .numbers) small)) in
+      record {
+        span = omega (arith, f .inside, ordered .whole);
+        short = omega (arith, f .inside, limits .code);
+        inputs = f .inputs-fit;
+        places = f .places;
+      }

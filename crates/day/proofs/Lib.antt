@@ -2,3 +2,6 @@
 pub mod JobEnd
 pub mod Jobs
 pub mod Turns
+pub mod Views
+pub mod Between
+pub mod Answers

@@ -1,5 +1,4 @@
 -- The loop over the jobs of a day: what is made of the turns from job k on.
-use mathlib.Core.Bool.{Bool, true, false}
 use mathlib.Core.List.{List, [], _∷_, _++_}
 use mathlib.Core.Path.{_≡_, refl, sym, ap, _∙_}
 use Prim.Native.Nat.{ℕ, suc, _+_, _-_, _*_, _≤_, _<_}
@@ -13,7 +12,7 @@ use Rattle.day_file.specs.declared.Job.{Job}
 use Rattle.day_file.specs.Sections.{jobFrom, jobsFrom}
 use Rattle.day.specs.Running.{Turn, skipped, ran, jobRun, storeAfter, admitted, turns}
 use Rattle.day.specs.Views.{eachTurn}
-use Rattle.day.specs.Parts.{shownAt}
+use Rattle.day.specs.Parts.{shownAt, mostBytes}
 
 -- ── the turns ──
 
@@ -52,6 +51,15 @@ module _ (bs : List ℕ) (at n : ℕ) where
   pub none-left : (k : ℕ) → n ≤ k → jobsLeft k ≡ []
   unfolding jobsFrom
   none-left k h = ap (λ (m : ℕ). jobsFrom bs m (at + 12 * k)) (let e : n - k ≡ 0 = omega arith in e)
+
+  -- the most bytes that the views from job k on can have
+  pub most-here : (k : ℕ) → k < n → mostBytes (jobsLeft k) ≡ 62 + 36 * job k .places + mostBytes (jobsLeft (k + 1))
+  unfolding mostBytes
+  most-here k h = ap mostBytes (next-job k h)
+
+  pub most-nothing : (k : ℕ) → n ≤ k → mostBytes (jobsLeft k) ≡ 0
+  unfolding mostBytes
+  most-nothing k h = ap mostBytes (none-left k h)
 
 -- ── a buffer that may be too short ──
 

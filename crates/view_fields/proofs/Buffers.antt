@@ -26,6 +26,14 @@ back i b ys = take i b ++ (ys ++ drop (length b - i) (drop i b))
 pub part-drop : (i : ℕ) (b : List ℕ) → part i b ≡ drop i b
 part-drop i b = take-all (length b - i) (drop i b) (rw length-drop (omega arith))
 
+-- the part from i on comes back with xs over its start
+pub back-over : (i : ℕ) (b xs ys : List ℕ) → ys ≡ over xs (part i b) → back i b ys ≡ take i b ++ over xs (drop i b)
+back-over i b xs ys r =
+    ap₂ (λ (y z : List ℕ). take i b ++ (y ++ z)) (r ∙ ap (over xs) (part-drop i b)) none ∙ ap (λ (y : List ℕ). take i b ++ y) (append-nil _)
+  where
+    none : drop (length b - i) (drop i b) ≡ []
+    none = drop-of-length-le (drop i b) {i = length b - i} (let z = length-drop i b in omega arith)
+
 pub start : {whole left b : List ℕ} → left ≡ whole → Writing whole left b b 0
 start {b = b} e = record { room = omega arith; same = refl; count = let f = ap length e in omega arith; rest = ap (λ (v : List ℕ). over v b) (sym e) }
 
@@ -94,12 +102,7 @@ module _ {whole left b₀ b : List ℕ} {i : ℕ} (w : Writing whole left b₀ b
   -- the part from i on is lent, and comes back as ys, with xs over its start
   pub piece : (xs : List ℕ) {l : List ℕ} → left ≡ xs ++ l → {n : ℕ} → length xs ≡ n → i + n ≤ length b₀
       → {ys : List ℕ} → ys ≡ over xs (part i b) → Writing whole l b₀ (back i b ys) (i + n)
-  piece xs {l} d {n} e h {ys} r =
-      more xs l d n e h (back i b ys)
-      (ap₂ (λ (y z : List ℕ). take i b ++ (y ++ z)) (r ∙ ap (over xs) (part-drop i b)) none ∙ ap (λ (y : List ℕ). take i b ++ y) (append-nil _))
-    where
-      none : drop (length b - i) (drop i b) ≡ []
-      none = drop-of-length-le (drop i b) {i = length b - i} (let z = length-drop i b in omega arith)
+  piece xs {l} d {n} e h {ys} r = more xs l d n e h (back i b ys) (back-over i b xs ys r)
 
   -- the same where there is room for the whole
   pub next : length whole ≤ length b₀ → (xs : List ℕ) {l : List ℕ} → left ≡ xs ++ l → {n : ℕ} → n ≡ length xs → {ys : List ℕ} → ys ≡ over xs (part i b)

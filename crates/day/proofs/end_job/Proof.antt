@@ -6,7 +6,6 @@ use lib.ListN.{length}
 use Rattle.store.specs.Slots.{words, slots}
 use Rattle.store.proofs.Places.{length-slots}
 use Rattle.day.proofs.JobEnd.{Ending, none-yet, one-more, all-ended}
-use borrow.Author.Needs.{needs}
 use Rattle.day.proofs.end_job.Statement.{statement}
 use Rattle.day.proofs.end_job.Tie as tie
 

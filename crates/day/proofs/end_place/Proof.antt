@@ -1,11 +1,8 @@
 -- `day::end_place` meets its contract.
-use mathlib.Core.Path.{sym, ap, _∙_}
+use mathlib.Core.Path.{sym, _∙_}
 use native.Mathlib.Omega.{arith}
 use denote.Ref.{now}
-use lib.ListN.{set}
-use Rattle.model.specs.declared.Slot.{Slot}
 use Rattle.store.specs.Slots.{slots}
-use Rattle.day.specs.JobEnd.{keptSlot}
 use Rattle.day.proofs.JobEnd.{emptied, stays-empty, kept-there}
 use borrow.Author.Needs.{needs}
 use Rattle.day.proofs.end_place.Statement.{statement}

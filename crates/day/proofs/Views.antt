@@ -1,0 +1,158 @@
+-- The views of a day on their way into the buffer, and how long they can get.
+use mathlib.Core.Bool.{Bool}
+use mathlib.Core.List.{List, _++_}
+use mathlib.Core.Path.{_≡_, refl, sym, ap, _∙_}
+use Prim.Native.Nat.{ℕ, _+_, _-_, _*_, _≤_, _<_}
+use native.Mathlib.Omega.{arith}
+use lib.ListN.{length, replicate}
+use borrow.Author.Tests.{le-leb, lt-leb}
+use Rattle.labels.specs.declared.Label.{Label}
+use Rattle.model.specs.State.{Store}
+use Rattle.model.specs.Inputs.{inputs, inputSlots}
+use Rattle.model.specs.Running.{startStore}
+use Rattle.model.specs.Words.{labelIn}
+use Rattle.model.specs.declared.Finished.{Finished}
+use Rattle.machine.specs.Steps.{Finishes}
+use Rattle.store.specs.Slots.{words, slots}
+use Rattle.store.proofs.Places.{length-slots}
+use Rattle.operands.specs.Program.{count}
+use Rattle.view_fields.specs.Fields.{littleEndian}
+use Rattle.view_fields.specs.Writing.{over, numbers}
+use Rattle.view_fields.proofs.Buffers.{part, back, back-over}
+use Rattle.view.specs.Layout.{view, viewLength}
+use Rattle.view.specs.Writing.{finished}
+use Rattle.view.proofs.Widths.{length-view, view-finished}
+use Rattle.view.proofs.LengthField.{shown-most}
+use Rattle.file_sections.specs.Sections.{inputsOf}
+use Rattle.day_file.specs.declared.Header.{Header}
+use Rattle.day_file.specs.declared.Job.{Job}
+use Rattle.day_file.specs.Sections.{dayHeader, dayInputs}
+use Rattle.day_file.specs.Parts.{DayLoads}
+use Rattle.day.specs.JobEnd.{endJob}
+use Rattle.day.specs.Running.{ran, jobRun, storeAfter, dayTurns}
+use Rattle.day.specs.Views.{skippedView, turnView, turnViews}
+use Rattle.day.specs.Parts.{shownAt}
+use Rattle.day.proofs.Jobs.{recordsIn, records-are, counted, labels-are}
+use Rattle.day.proofs.Turns.{job, made, made-skipped, made-ran, made-nothing, made-all, Shows, shows-none, shows-more, shows-all}
+
+-- ── a view from a place of the buffer on ──
+
+pub shown-fits : (at : ℕ) (v b ys : List ℕ) → at + length v ≤ length b → ys ≡ over v (part at b) → back at b ys ≡ shownAt at v b
+unfolding shownAt
+shown-fits at v b ys h e = back-over at b v ys e ∙ sym (rw (le-leb (at + length v) (length b) h))
+
+pub shown-not : (at : ℕ) (v b : List ℕ) → length b < at + length v → b ≡ shownAt at v b
+unfolding shownAt
+shown-not at v b h = rw (lt-leb (at + length v) (length b) h)
+
+pub length-skipped : length skippedView ≡ 62
+unfolding skippedView littleEndian
+length-skipped = refl
+
+-- a skipped job's view in the parts that are written
+pub skipped-parts : (b : List ℕ) → over (numbers 4 0 0 ++ (numbers 0 62 62 ++ replicate 50 0)) b ≡ over skippedView b
+unfolding skippedView numbers littleEndian
+skipped-parts b = refl
+
+-- a view of a store of 256 places
+pub view-most : (Reads : Label → Bool) (l : List ℕ) → viewLength Reads (slots l) ≤ 9278
+unfolding viewLength
+view-most Reads l = let e = length-slots l in omega (arith, shown-most Reads (slots l))
+
+-- ── the jobs one by one ──
+
+module _ (Reads : Label → Bool) (bs : List ℕ) where
+  abbrev whole : List ℕ
+  whole = turnViews Reads (dayTurns bs)
+
+  -- the views of the jobs from job k on, with so many steps left and the records in `store`
+  abbrev left-over : ℕ → ℕ → List ℕ → List ℕ
+  left-over k left store = made (turnView Reads) bs (dayHeader bs .jobs .offset) (dayHeader bs .jobs .count) k left (slots store)
+
+  -- job k
+  abbrev pub jobAt : ℕ → Job
+  jobAt k = job bs (dayHeader bs .jobs .offset) (dayHeader bs .jobs .count) k
+
+  -- the jobs below k have had their turn; the buffer was b₀ and is b, filled up to `at`
+  pub record Served (b₀ b store : List ℕ) (left at k : ℕ) : Type 0 where
+    pub some : k ≤ dayHeader bs .jobs .count
+    pub few : at ≤ 9278 * k
+    pub size : length store ≡ words
+    pub shows : Shows whole (left-over k left store) b₀ b at
+
+  pub none-served : (b store : List ℕ) (left : ℕ) → left ≡ dayHeader bs .steps → length store ≡ words
+      → slots store ≡ startStore (inputSlots (dayInputs bs)) → Served b b store left 0 0
+  unfolding dayTurns
+  none-served b store left e z s =
+      record {
+        some = omega arith;
+        few = omega arith;
+        size = z;
+        shows = shows-none (rw (e, s) (made-all (turnView Reads) bs (dayHeader bs .jobs .offset) (dayHeader bs .jobs .count) (dayHeader bs .steps) (startStore (inputSlots (dayInputs bs)))));
+      }
+
+  -- job k, which is j, has its turn
+  module _ {b₀ b store : List ℕ} {left at k : ℕ} (w : Served b₀ b store left at k) (h : k < dayHeader bs .jobs .count) {j : Job} (is : j ≡ jobAt k) where
+    pub one-skipped : left < j .steps → {b′ : List ℕ} → b′ ≡ shownAt at skippedView b → length b′ ≡ length b
+        → {n : ℕ} → n ≡ 62 → Served b₀ b′ store left (at + n) (k + 1)
+    unfolding turnView
+    one-skipped s q z e =
+        record {
+          some = omega arith;
+          few = omega (arith, w .few);
+          size = w .size;
+          shows =
+              shows-more (w .shows) skippedView
+              (made-skipped (turnView Reads) bs (dayHeader bs .jobs .offset) (dayHeader bs .jobs .count) k left (slots store) h (rw is at s)) (e ∙ sym length-skipped) q z;
+        }
+
+    -- its view, and the views behind it
+    view-here : j .steps ≤ left → (next : List ℕ) → slots next ≡ storeAfter bs j (slots store)
+        → left-over k left store ≡ view Reads (j .steps) (jobRun bs j (slots store)) ++ left-over (k + 1) (left - j .steps) next
+    unfolding turnView
+    view-here s next after =
+        rw (after, is)
+        (made-ran (turnView Reads) bs (dayHeader bs .jobs .offset) (dayHeader bs .jobs .count) k left (slots store) h (rw is at s))
+
+    pub one-ran : j .steps ≤ left → {next : List ℕ} → length next ≡ words → slots next ≡ storeAfter bs j (slots store)
+        → {n : ℕ} → n ≤ 9278 → n ≡ length (view Reads (j .steps) (jobRun bs j (slots store)))
+        → {b′ : List ℕ} → b′ ≡ shownAt at (view Reads (j .steps) (jobRun bs j (slots store))) b → length b′ ≡ length b
+        → Served b₀ b′ next (left - j .steps) (at + n) (k + 1)
+    one-ran s {next} z after {n} small e q same =
+        record {
+          some = omega arith;
+          few = omega (arith, w .few);
+          size = z;
+          shows = shows-more (w .shows) (view Reads (j .steps) (jobRun bs j (slots store))) (view-here s next after) e q same;
+        }
+
+  module _ {b₀ b store : List ℕ} {left at k : ℕ} (w : Served b₀ b store left at k) where
+    pub all-served : dayHeader bs .jobs .count ≤ k → (at ≡ length whole) × (length whole ≤ length b₀ → b ≡ over whole b₀)
+    all-served h =
+        shows-all (w .shows) (made-nothing (turnView Reads) bs (dayHeader bs .jobs .offset) (dayHeader bs .jobs .count) k left (slots store) h)
+
+-- ── a job that is served ──
+
+module _ (Reads : Label → Bool) (bs : List ℕ) (j : Job) (σ : Store) (f : Finished) (ran : List ℕ) (fin : Finishes f (slots ran) (jobRun bs j σ)) where
+  pub served-view : view Reads (j .steps) (finished f (slots ran)) ≡ view Reads (j .steps) (jobRun bs j σ)
+  served-view =
+      sym (
+      view-finished Reads (j .steps) (jobRun bs j σ) f (fin .ending) (fin .label) (fin .clearance) (fin .steps) (fin .next)
+      ∙ ap (λ (τ : Store). view Reads (j .steps) (finished f τ)) (fin .store)
+      )
+
+  pub served-store : (c : ℕ) → c ≡ dayHeader bs .records .count → (next : List ℕ) → slots next ≡ endJob c (slots ran) → slots next ≡ storeAfter bs j σ
+  unfolding storeAfter
+  served-store c e next q = q ∙ rw (e, fin .store)
+
+  pub served-length : (n : ℕ) → n ≡ length (view Reads (j .steps) (finished f (slots ran))) → n ≤ 9278
+  served-length n e = omega (arith, e, length-view Reads (j .steps) (finished f (slots ran)), view-most Reads ran)
+
+-- ── the start ──
+
+module _ (bs : List ℕ) (h : Header) (ws : List ℕ) (w : DayLoads bs h ws) where
+  -- what the input records are placed by
+  pub inputs-placed : (σ : Store) → σ ≡ startStore (inputSlots (inputs (labelIn ws) (recordsIn h bs) (count (recordsIn h bs)) 0))
+      → σ ≡ startStore (inputSlots (dayInputs bs))
+  unfolding inputsOf
+  inputs-placed σ e = e ∙ rw (labels-are bs h ws w, counted bs h ws w, records-are bs h ws w, w .numbers)
