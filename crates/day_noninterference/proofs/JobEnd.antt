@@ -1,5 +1,4 @@
--- The end of a job: no place from C on is taken, and an observer sees of two stores what it saw, the handles that lead
--- nowhere being faults in both.
+-- The end of a job: an observer sees of two stores what it saw, the handles that lead nowhere being faults in both.
 use mathlib.Core.Bool.{Bool, true, false}
 use mathlib.Core.List.{List, [], _∷_}
 use mathlib.Core.Path.{_≡_, refl, sym, ap, _∙_, subst}
@@ -22,18 +21,7 @@ use Rattle.model.proofs.Kept.{shell}
 use Rattle.model.proofs.Plans.{All}
 use Rattle.model.proofs.LowEquivalence.{Twin, SharedContents, SharedSlot, LowEquivalent}
 use Rattle.day.specs.JobEnd.{keptDatum, keptContents, keptSlot, endSlot, endJob}
-use Rattle.day.proofs.JobEnd.{length-end, end-kept, end-empty, end-at}
-
--- ── no place from c on is taken ──
-
--- of the 256 places of a store
-abbrev pub Free : ℕ → Store → Type 0
-Free c σ = (p : ℕ) → c ≤ p → p < 256 → (p < length σ) × (at σ p ≡ Empty)
-
-pub end-free : (c : ℕ) (σ τ : Store) → Free c σ → length σ ≡ length τ → Free c (endJob c τ)
-end-free c σ τ f sized p le lt =
-    let there = f p le lt .0 in
-    (rw (length-end c 0 τ) (omega arith), end-at c τ p ∙ end-empty c p (at τ p) le)
+use Rattle.day.proofs.JobEnd.{length-end, end-kept, end-at}
 
 -- ── what an observer sees ──
 
