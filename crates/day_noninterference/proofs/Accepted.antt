@@ -2,17 +2,16 @@
 -- next is one of its span's, and the place that it asks for holds a record. So fault 33 starts only from contents.
 use mathlib.Core.Bool.{Bool, true, false}
 use mathlib.Core.List.{List, [], _∷_}
-use mathlib.Core.Path.{_≡_, refl, sym, _∙_}
+use mathlib.Core.Path.{_≡_, refl}
 use Prim.Native.Nat.{ℕ, _≤_}
 use native.Mathlib.Omega.{arith}
-use lib.ListN.{length, length-take, length-drop, length-append, length-replicate}
+use lib.ListN.{length, length-take, length-drop}
 use Rattle.labels.specs.Order.{flows}
 use Rattle.model.specs.State.{Control, Store}
 use Rattle.model.specs.declared.Account.{Account}
 use Rattle.model.specs.Decoding.{u16}
 use Rattle.model.specs.Inputs.{inputSlots}
 use Rattle.model.specs.Running.{startControl, startStore}
-use Rattle.model.proofs.Start.{length-slots}
 use Rattle.model.proofs.Reached.{Reached, anyLabel}
 use Rattle.view_fields.specs.Fields.{littleEndian}
 use Rattle.view.proofs.LengthField.{length-field-places}
@@ -24,9 +23,10 @@ use Rattle.day_file.proofs.Tests.{AllJobs, all-map}
 use Rattle.day_file.proofs.Answers.{within-limits, in-place, jobs-fit, spans-fit}
 use Rattle.day.specs.Running.{jobProgram, jobAccount, jobRun, storeAfter, Turn, skipped, ran, turns, admitted, dayTurns}
 use Rattle.day.specs.Views.{skippedView, turnView}
+use Rattle.day.proofs.Between.{Free, count-inputs, start-free, job-fresh, job-sized, after-free}
 use Rattle.noninterference.proofs.Accepted.{OnCode, every-label, reached-on-code, start-closed}
-use Rattle.day_noninterference.proofs.JobEnd.{Free, end-length, other-program}
-use Rattle.day_noninterference.proofs.Turns.{Between, betweenJobs, count-inputs, start-free, job-fresh, job-sized, after-free, after-between}
+use Rattle.day_noninterference.proofs.JobEnd.{other-program}
+use Rattle.day_noninterference.proofs.Turns.{Between, betweenJobs, after-between}
 
 -- ── the states between jobs ──
 
@@ -65,7 +65,8 @@ module _ (bs : List ℕ) (none : dayRefusal bs ≡ 0) where
 
   comes-sound : {js : List Job} {ads : List Bool} {σ : Store} → Comes bs js ads σ → Sound js σ
   comes-sound starts =
-      let free = start-free bs (dayInputs bs) (count-inputs bs) in
+      let few = within-limits bs none .records in
+      let free = start-free bs (dayInputs bs) (count-inputs bs) (omega arith) in
       record {
         fit = jobs-fit bs none;
         pass = spans-fit bs none;
@@ -107,26 +108,20 @@ skipped-length = refl
 
 module _ (bs : List ℕ) (i : ℕ) where
   turn-lengths : (js : List Job) (ads : List Bool) (σ : Store) → AllJobs (λ j. j .places ≤ 256) js → Free (dayHeader bs .records .count) σ
-      → length σ ≡ 256 → AllTurns (LengthTold bs i) (turns bs js ads σ)
-  unfolding turns turnView storeAfter
-  turn-lengths [] ads σ fit free n = tt
-  turn-lengths (j ∷ js) [] σ fit free n = tt
-  turn-lengths (j ∷ js) (true ∷ ads) σ fit free n =
-      let D = every-label [] (dayLabel bs) (dayInputs bs) in
-      let k = job-sized bs anyLabel D j (fit .0) σ free in (
-        length-field-places (λ l. flows l (dayLabel bs i)) (j .steps) (jobRun bs j σ) (omega (arith, k)),
-        turn-lengths js ads (storeAfter bs j σ) (fit .1) (after-free bs anyLabel D j (fit .0) σ free)
-            (end-length (dayHeader bs .records .count) 0 (jobRun bs j σ .store) ∙ sym k ∙ n),
-      )
-  turn-lengths (j ∷ js) (false ∷ ads) σ fit free n = (skipped-length, turn-lengths js ads σ (fit .1) free n)
+      → AllTurns (LengthTold bs i) (turns bs js ads σ)
+  unfolding turns turnView
+  turn-lengths [] ads σ fit free = tt
+  turn-lengths (j ∷ js) [] σ fit free = tt
+  turn-lengths (j ∷ js) (true ∷ ads) σ fit free = (
+    length-field-places (λ l. flows l (dayLabel bs i)) (j .steps) (jobRun bs j σ) (omega (arith, job-sized bs j (fit .0) σ free)),
+    turn-lengths js ads (storeAfter bs j σ) (fit .1) (after-free bs j (fit .0) σ free),
+  )
+  turn-lengths (j ∷ js) (false ∷ ads) σ fit free = (skipped-length, turn-lengths js ads σ (fit .1) free)
 
   -- "A view is as many bytes as its length field says", each of a day's.
   pub day-view-lengths : dayRefusal bs ≡ 0 → AllTurns (LengthTold bs i) (dayTurns bs)
-  unfolding dayTurns startStore
+  unfolding dayTurns
   day-view-lengths none =
       turn-lengths (dayJobs bs) (admitted (dayHeader bs .steps) (dayJobs bs)) (startStore (inputSlots (dayInputs bs)))
-      (all-map (λ j f. f .places) (dayJobs bs) (jobs-fit bs none)) (start-free bs (dayInputs bs) (count-inputs bs)) start-length
-    where
-      start-length : length (startStore (inputSlots (dayInputs bs))) ≡ 256
-      start-length =
-          simp (length-append, length-replicate, length-slots) (omega (arith, within-limits bs none .records, count-inputs bs))
+      (all-map (λ j f. f .places) (dayJobs bs) (jobs-fit bs none))
+      (start-free bs (dayInputs bs) (count-inputs bs) (omega (arith, within-limits bs none .records)))

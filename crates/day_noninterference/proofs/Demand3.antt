@@ -4,6 +4,7 @@ use mathlib.Core.Bool.{Bool, true, false}
 use mathlib.Core.List.{List, [], _∷_}
 use mathlib.Core.Path.{_≡_, refl, sym, ap, ap₂, _∙_, fun-ext}
 use Prim.Native.Nat.{ℕ}
+use native.Mathlib.Omega.{arith}
 use lib.ListN.{length}
 use Rattle.labels.specs.Order.{flows}
 use Rattle.labels.specs.declared.Label.{Label}
@@ -16,16 +17,17 @@ use Rattle.day_file.specs.declared.Job.{Job}
 use Rattle.day_file.specs.Sections.{dayHeader, daySections, dayLabel, dayInputs, dayJobs}
 use Rattle.day_file.specs.Checks.{spanOk, passes1, passes2, passes3, passes4, passes7, passes10, dayRefusal}
 use Rattle.day_file.proofs.Tests.{all-map}
-use Rattle.day_file.proofs.Answers.{jobs-fit}
+use Rattle.day_file.proofs.Answers.{within-limits, jobs-fit}
 use Rattle.day.specs.Running.{jobProgram, jobAccount, jobRun, storeAfter, skipped, ran, Turn, turns, admitted, dayTurns}
 use Rattle.day.specs.JobEnd.{endJob}
 use Rattle.day.specs.Views.{turnViews, dayView, dayReading}
+use Rattle.day.proofs.Between.{count-inputs, start-free}
 use Rattle.noninterference.specs.Alike.{SameReads}
 use Rattle.noninterference.proofs.Sections.{one-or-legible}
 use Rattle.noninterference.proofs.Demand3.{readable, same-reads}
 use Rattle.day_noninterference.specs.Alike.{dayLegible, DayAlike}
 use Rattle.day_noninterference.proofs.Sections.{day-legible-each, same-header, same-day-labels, same-day-label, alike-day-inputs, same-jobs, same-span}
-use Rattle.day_noninterference.proofs.Turns.{Between, betweenJobs, same-turns, start-free, count-inputs}
+use Rattle.day_noninterference.proofs.Turns.{Between, betweenJobs, same-turns}
 
 -- two days whose jobs run alike, of as many input records, have the same turns
 turns-alike : (bs cs : List ℕ) → jobRun bs ≡ jobRun cs → dayHeader bs .records .count ≡ dayHeader cs .records .count
@@ -67,11 +69,12 @@ module _ (bs cs : List ℕ) (i : ℕ) (A : DayAlike bs cs i) (lb : dayLegible bs
       fun-ext (λ (j : Job). fun-ext (λ (σ : Store). cc (he, one, two, ap (λ (f : Job → List ℕ). f j) (same-span bs cs i A lb lc))))
 
   -- the two days start from stores that the reader can't tell apart
-  starts : Between bs (λ l. flows l (dayLabel bs i)) (startStore (inputSlots (dayInputs bs))) (startStore (inputSlots (dayInputs cs)))
-  starts =
+  starts : dayRefusal bs ≡ 0 → Between bs (λ l. flows l (dayLabel bs i)) (startStore (inputSlots (dayInputs bs))) (startStore (inputSlots (dayInputs cs)))
+  starts none =
+      let few = within-limits bs none .records in
       record {
-        left = start-free bs (dayInputs bs) (count-inputs bs);
-        right = start-free bs (dayInputs cs) (count-inputs cs ∙ ap (λ (h : Header). h .records .count) (sym he));
+        left = start-free bs (dayInputs bs) (count-inputs bs) (omega arith);
+        right = start-free bs (dayInputs cs) (count-inputs cs ∙ ap (λ (h : Header). h .records .count) (sym he)) (omega arith);
         same = start-equivalent (betweenJobs bs) (λ l. flows l (dayLabel bs i)) (dayInputs bs) (dayInputs cs) alike refl;
       }
 
@@ -79,7 +82,7 @@ module _ (bs cs : List ℕ) (i : ℕ) (A : DayAlike bs cs i) (lb : dayLegible bs
   unfolding dayView dayTurns
   views-alike none =
       same-turns bs (λ l. flows l (dayLabel bs i)) (λ l. flows l (dayLabel bs i)) (λ l e. e) (readable [] (dayLabel bs) (dayInputs bs) (dayLabel bs i))
-      (dayJobs bs) ads (startStore (inputSlots (dayInputs bs))) start (all-map (λ j f. f .places) (dayJobs bs) (jobs-fit bs none)) starts
+      (dayJobs bs) ads (startStore (inputSlots (dayInputs bs))) start (all-map (λ j f. f .places) (dayJobs bs) (jobs-fit bs none)) (starts none)
       ∙ ap (turnViews (λ l. flows l (dayLabel bs i))) (turns-alike bs cs same-run (ap (λ (h : Header). h .records .count) he) (dayJobs bs) ads start)
       ∙ ap₂ (λ (h : Header) (js : List Job). turnViews (λ l. flows l (dayLabel bs i)) (turns cs js (admitted (h .steps) js) start))
       he (same-jobs bs cs i A lb lc)

@@ -1,12 +1,11 @@
--- The end of a job: no place from C on is taken, and an observer sees of two stores what it saw, the handles that lead
--- nowhere being faults in both.
+-- The end of a job: an observer sees of two stores what it saw, the handles that lead nowhere being faults in both.
 use mathlib.Core.Bool.{Bool, true, false}
 use mathlib.Core.List.{List, [], _∷_}
 use mathlib.Core.Path.{_≡_, refl, sym, ap, _∙_, subst}
-use Prim.Native.Nat.{ℕ, zero, suc, _+_, _≤_, _<_}
+use Prim.Native.Nat.{ℕ, suc, _+_, _≤_, _<_}
 use native.Mathlib.Omega.{arith}
 use lib.Dec.{leb, ltb}
-use borrow.Author.Tests.{leb-false, lt-ltb, le-ltb}
+use borrow.Author.Tests.{leb-false}
 use lib.ListN.{length}
 use Rattle.labels.specs.declared.Label.{Label}
 use Rattle.model.specs.State.{Store, Program, at, shown}
@@ -21,47 +20,8 @@ use Rattle.model.proofs.Tests.{cond-one}
 use Rattle.model.proofs.Kept.{shell}
 use Rattle.model.proofs.Plans.{All}
 use Rattle.model.proofs.LowEquivalence.{Twin, SharedContents, SharedSlot, LowEquivalent}
-use Rattle.day.specs.JobEnd.{keptDatum, keptContents, keptSlot, endSlot, endFrom, endJob}
-
--- ── place by place ──
-
-pub end-length : (c p : ℕ) (σ : Store) → length (endFrom c p σ) ≡ length σ
-unfolding endFrom
-end-length c p [] = refl
-end-length c p (x ∷ σ) = ap suc (end-length c (suc p) σ)
-
-end-empty : (c p : ℕ) → endSlot c p Empty ≡ Empty
-unfolding endSlot keptSlot
-end-empty c p = cond-one (λ (x : Slot). x ≡ Empty) (ltb p c) (λ _. refl) (λ _. refl)
-
-end-at-from : (c k : ℕ) (σ : Store) (p : ℕ) → at (endFrom c k σ) p ≡ endSlot c (k + p) (at σ p)
-unfolding endFrom
-end-at-from c k [] p = sym (end-empty c (k + p))
-end-at-from c k (x ∷ σ) zero = ap (λ (q : ℕ). endSlot c q x) (omega arith)
-end-at-from c k (x ∷ σ) (suc p) = end-at-from c (suc k) σ p ∙ ap (λ (q : ℕ). endSlot c q (at σ p)) (omega arith)
-
-pub end-at : (c : ℕ) (σ : Store) (p : ℕ) → at (endJob c σ) p ≡ endSlot c p (at σ p)
-end-at c σ p = end-at-from c 0 σ p ∙ ap (λ (q : ℕ). endSlot c q (at σ p)) (omega arith)
-
--- an input's place, and any other
-slot-kept : (c p : ℕ) (x : Slot) → p < c → endSlot c p x ≡ keptSlot c x
-unfolding endSlot
-slot-kept c p x lt = rw (lt-ltb p c lt)
-
-slot-gone : (c p : ℕ) (x : Slot) → c ≤ p → endSlot c p x ≡ Empty
-unfolding endSlot
-slot-gone c p x le = rw (le-ltb p c le)
-
--- ── no place from c on is taken ──
-
--- of the 256 places of a store
-abbrev pub Free : ℕ → Store → Type 0
-Free c σ = (p : ℕ) → c ≤ p → p < 256 → (p < length σ) × (at σ p ≡ Empty)
-
-pub end-free : (c : ℕ) (σ τ : Store) → Free c σ → length σ ≡ length τ → Free c (endJob c τ)
-end-free c σ τ f sized p le lt =
-    let there = f p le lt .0 in
-    (rw (end-length c 0 τ) (omega arith), end-at c τ p ∙ slot-gone c p (at τ p) le)
+use Rattle.day.specs.JobEnd.{keptDatum, keptContents, keptSlot, endSlot, endJob}
+use Rattle.day.proofs.JobEnd.{length-end, end-kept, end-at}
 
 -- ── what an observer sees ──
 
@@ -96,7 +56,7 @@ module _ (c : ℕ) (σ τ : Store) where
   end-twin p lt (full, same) = (λ e. full (sym (one σ) ∙ e), one σ ∙ same ∙ sym (one τ))
     where
       one : (ρ : Store) → shell (at (endJob c ρ) p) ≡ shell (at ρ p)
-      one ρ = ap shell (end-at c ρ p ∙ slot-kept c p (at ρ p) lt) ∙ kept-shell c (at ρ p)
+      one ρ = ap shell (end-at c ρ p ∙ end-kept c p (at ρ p) lt) ∙ kept-shell c (at ρ p)
 
   -- a handle that is kept is to an input
   datum-shared : (d : Datum) → SharedContents σ τ (Holds d) → SharedContents (endJob c σ) (endJob c τ) (keptDatum c d)
@@ -134,7 +94,7 @@ module _ (c : ℕ) (σ τ : Store) where
         alike = λ i. seen σ i ∙ ap (endSlot c i) (s .alike i) ∙ sym (seen τ i);
         shared = λ i. subst (SharedSlot (endJob c σ) (endJob c τ)) (sym (seen σ i)) (end-shared i (shown Low (at σ i)) (s .shared i));
         inputs = rw q (end-handles 0 xs (omega arith) (rw p at (s .inputs)));
-        sized = end-length c 0 σ ∙ s .sized ∙ sym (end-length c 0 τ);
+        sized = length-end c 0 σ ∙ s .sized ∙ sym (length-end c 0 τ);
       }
     where
       seen : (ρ : Store) (i : ℕ) → shown Low (at (endJob c ρ) i) ≡ endSlot c i (shown Low (at ρ i))

@@ -5,4 +5,5 @@ pub mod Sections
 pub mod Demand3
 pub mod Example
 pub mod Accepted
+pub mod Fault33
 pub mod OneJob

@@ -2,26 +2,23 @@
 -- theorem. Which jobs are admitted is taken as given.
 use mathlib.Core.Bool.{Bool, true, false}
 use mathlib.Core.List.{List, [], _∷_, _++_}
-use mathlib.Core.Path.{_≡_, refl, sym, ap, ap₂}
+use mathlib.Core.Path.{_≡_, refl, ap, ap₂}
 use Prim.Native.Nat.{ℕ, _≤_}
-use native.Mathlib.Omega.{arith}
-use lib.ListN.{length}
 use Rattle.labels.specs.declared.Label.{Label}
 use Rattle.model.specs.State.{Store, Program}
-use Rattle.model.specs.Inputs.{Input, inputSlots}
-use Rattle.model.specs.Running.{runs, programOf, startControl, startStore}
-use Rattle.model.proofs.Kept.{LowSet, Fresh, run-kept}
+use Rattle.model.specs.Running.{programOf, startControl}
+use Rattle.model.proofs.Kept.{LowSet}
 use Rattle.model.proofs.LowEquivalence.{Twin, LowEquivalent, LowOutcomes}
-use Rattle.model.proofs.Start.{length-inputs, numbers-point, start-fresh}
+use Rattle.model.proofs.Start.{numbers-point}
 use Rattle.model.proofs.TwoRuns.{two-runs}
-use Rattle.file_sections.specs.Sections.{recordBytesOf, inputsOf}
 use Rattle.view.proofs.SameView.{same-view}
-use Rattle.day_file.specs.Sections.{dayHeader, daySections, dayLabel, dayInputs}
+use Rattle.day_file.specs.Sections.{dayHeader, dayLabel, dayInputs}
 use Rattle.day_file.specs.declared.Job.{Job}
 use Rattle.day_file.proofs.Tests.{AllJobs}
 use Rattle.day.specs.Running.{jobProgram, jobAccount, jobRun, storeAfter, skipped, turns}
 use Rattle.day.specs.Views.{turnView, eachTurn, turnViews}
-use Rattle.day_noninterference.proofs.JobEnd.{Free, end-free, end-equivalent, other-program}
+use Rattle.day.proofs.Between.{Free, count-inputs, job-fresh, after-free}
+use Rattle.day_noninterference.proofs.JobEnd.{end-equivalent, other-program}
 
 module _ (bs : List ℕ) where
   -- a program with the day's labels and inputs; what its code is plays no part where no job runs
@@ -34,19 +31,6 @@ module _ (bs : List ℕ) where
     pub right : Free (dayHeader bs .records .count) τ
     pub same : LowEquivalent betweenJobs Low σ τ
 
-  pub count-inputs : length (dayInputs bs) ≡ dayHeader bs .records .count
-  unfolding inputsOf
-  count-inputs = length-inputs (dayLabel bs) (recordBytesOf (daySections bs) bs) (dayHeader bs .records .count) 0
-
-  pub job-fresh : (j : Job) (σ : Store) → j .places ≤ 256 → Free (dayHeader bs .records .count) σ → Fresh (jobAccount bs j) σ
-  unfolding jobAccount
-  job-fresh j σ le f p i = f p (i .0) (omega (arith, i .1))
-
-  -- the day starts with no more places taken than there are inputs
-  pub start-free : (xs : List Input) → length xs ≡ dayHeader bs .records .count → Free (dayHeader bs .records .count) (startStore (inputSlots xs))
-  start-free xs e p le lt =
-      start-fresh xs (dayLabel bs 0) (dayLabel bs 0) 0 (dayHeader bs .records .count) 256 (sym e) (omega arith) p (le, lt)
-
   -- ── one job ──
 
   module _ (Low : Label → Bool) (D : LowSet betweenJobs Low) (j : Job) (le : j .places ≤ 256) where
@@ -54,21 +38,11 @@ module _ (bs : List ℕ) where
     unfolding jobProgram
     under = record { down = D .down; join-left = D .join-left; join-right = D .join-right }
 
-    -- a run keeps the places of the store
-    pub job-sized : (σ : Store) → Free (dayHeader bs .records .count) σ → length σ ≡ length (jobRun bs j σ .store)
-    unfolding jobRun runs
-    job-sized σ f =
-        run-kept (jobProgram bs j) Low under (jobAccount bs j .steps) startControl (jobAccount bs j) σ (job-fresh j σ le f) .sized
-
-    pub after-free : (σ : Store) → Free (dayHeader bs .records .count) σ → Free (dayHeader bs .records .count) (storeAfter bs j σ)
-    unfolding storeAfter
-    after-free σ f = end-free (dayHeader bs .records .count) σ (jobRun bs j σ .store) f (job-sized σ f)
-
     module _ (σ τ : Store) (b : Between Low σ τ) where
       pub two-jobs : LowOutcomes (jobProgram bs j) Low (jobRun bs j σ) (jobRun bs j τ)
       unfolding jobProgram jobRun
       two-jobs =
-          two-runs (jobProgram bs j) Low under startControl (jobAccount bs j) σ τ (job-fresh j σ le (b .left)) (job-fresh j τ le (b .right))
+          two-runs (jobProgram bs j) Low under startControl (jobAccount bs j) σ τ (job-fresh bs j σ le (b .left)) (job-fresh bs j τ le (b .right))
           (record { stack = tt; locals = numbers-point (Twin σ τ) 16 }) (other-program betweenJobs (jobProgram bs j) Low σ τ refl (b .same))
 
       -- and once it has ended, the next job starts from two such stores
@@ -76,10 +50,10 @@ module _ (bs : List ℕ) where
       unfolding jobProgram storeAfter
       after-between =
           record {
-            left = after-free σ (b .left);
-            right = after-free τ (b .right);
+            left = after-free bs j le σ (b .left);
+            right = after-free bs j le τ (b .right);
             same = end-equivalent (dayHeader bs .records .count) (jobRun bs j σ .store) (jobRun bs j τ .store) (jobProgram bs j) betweenJobs Low
-                (dayInputs bs) refl refl count-inputs (two-jobs .stores);
+                (dayInputs bs) refl refl (count-inputs bs) (two-jobs .stores);
           }
 
   -- ── the jobs ──

@@ -5,7 +5,7 @@ use mathlib.Core.Option.{Option, none, some}
 use mathlib.Core.Path.{_≡_, refl, sym, ap, ap₂, _∙_}
 use Prim.Native.Nat.{ℕ, zero, suc, _+_, _*_, _≤_, _<_}
 use native.Mathlib.Omega.{arith}
-use lib.Dec.{ltb}
+use lib.Dec.{ltb, eqb}
 use borrow.Author.Tests.{ltb-true, ltb-false}
 use lib.ListN.{length, getD, set, drop, length-append, List·getD-eq-default}
 use Rattle.label_entries.specs.Entries.{readEntry}
@@ -13,8 +13,9 @@ use Rattle.labels.specs.declared.Label.{Label}
 use Rattle.label_entries.specs.declared.Entry.{Entry}
 use Rattle.label_entries.specs.declared.Entry.the-variants.{Read, Malformed}
 use Rattle.model.specs.Words.{labelIn}
+use Rattle.model.proofs.Tests.{cond-one}
 use Rattle.file_sections.specs.Sections.{Sections, labelBytesOf, consLabel, labelsAfter, readLabels, labelsOf, labelOf, orNone}
-use Rattle.file_sections.specs.Words.{tables, padded, labelWords, tableOf}
+use Rattle.file_sections.specs.Words.{tables, padded, labelWords, wordsLent, tableOf}
 use Rattle.file_sections.specs.declared.Table.{Table}
 
 -- ── filling the words ──
@@ -147,3 +148,8 @@ unfolding labelOf labelsOf
 words-are-labels s bs most i =
     let few = labels-few (s .labels) (labelBytesOf s bs) in
     words-hold-any (orNone (labelsOf s bs)) (omega arith) i
+
+-- The lent words are as many as before, whatever stops the file.
+pub length-lent : (n : ℕ) (o : Option (List Label)) (was ws : List ℕ) → length was ≡ 64 → ws ≡ wordsLent n o was → length ws ≡ 64
+unfolding labelWords
+length-lent n o was ws h e = rw e (cond-one (λ (l : List ℕ). length l ≡ 64) (eqb n 0) (λ _. length-padded 64 (tables (orNone o))) (λ _. h))

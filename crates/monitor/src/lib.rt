@@ -1,8 +1,9 @@
-// The open calls: reading a file for a label into a buffer. They ask nothing of their caller.
+// The open calls: reading a file, or a day, for a label into a buffer. They ask nothing of their caller.
 use script_file::Loaded;
 use view::Answer;
 ghost use mathlib.Core.Path.{_≡_};
 ghost use Rattle.view.specs.Reading.{reading};
+ghost use Rattle.day.specs.Views.{dayReading};
 ghost use Rattle.reading.specs.Answers.{reads, codeOf};
 
 // Reads a file for the label with index `reader`: its view goes to the start of `buffer`.
@@ -23,6 +24,29 @@ pub extern "C" fn nechwalu_read(file: &[u8], reader: usize, buffer: &mut [u8]) -
     ensures { λ r. ⌜ (r ≡ codeOf (reading (now (file .entry)) reader (now (buffer .entry)) .answer)) × (now (buffer .exit) ≡ reading (now (file .entry)) reader (now (buffer .entry)) .buffer) ⌝ }
 {
     match read(file, reader, buffer) {
+        Answer::Refused(n) => n as usize,
+        Answer::Viewed(n) => n,
+    }
+}
+
+// Reads a day for the label with index `reader`: the views of its jobs go to the start of `buffer`, end to end.
+pub fn read_day(file: &[u8], reader: usize, buffer: &mut [u8]) -> Answer
+    ensures { λ r. ⌜ reads r (now (buffer .exit)) ≡ dayReading (now (file .entry)) reader (now (buffer .entry)) ⌝ }
+{
+    let mut labels = [0u64; 64];
+    let loaded = day_file::load_day(file, &mut labels);
+    match loaded {
+        day_file::Loaded::Refused(n) => Answer::Refused(n),
+        day_file::Loaded::Day(h) => day::read_loaded(file, h, &labels, reader, buffer),
+    }
+}
+
+// The same for C and Rust, with one number for an answer: below 62 it is the refusal's, else the length of the views.
+#[no_mangle]
+pub extern "C" fn nechwalu_read_day(file: &[u8], reader: usize, buffer: &mut [u8]) -> usize
+    ensures { λ r. ⌜ (r ≡ codeOf (dayReading (now (file .entry)) reader (now (buffer .entry)) .answer)) × (now (buffer .exit) ≡ dayReading (now (file .entry)) reader (now (buffer .entry)) .buffer) ⌝ }
+{
+    match read_day(file, reader, buffer) {
         Answer::Refused(n) => n as usize,
         Answer::Viewed(n) => n,
     }

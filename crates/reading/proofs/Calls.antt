@@ -18,16 +18,14 @@ use Rattle.operands.specs.Program.{count, program}
 use Rattle.store.specs.Slots.{parts, slots}
 use Rattle.script_file.specs.Sections.{header, recordBytes, codeBytes, fileLabels, labelAt}
 use Rattle.script_file.specs.Checks.{refusal}
-use Rattle.model.proofs.Tests.{cond-one}
 use Rattle.script_file.specs.Loading.{refusalNumber, loaded, wordsAfter}
 use Rattle.script_file.specs.Program.{fileAccount, fileRun}
 use Rattle.script_file.specs.declared.Header.{Header}
 use Rattle.script_file.specs.declared.Refusal.{Refusal}
 use Rattle.script_file.specs.declared.Loaded.the-variants.{Refused as Stopped, File}
 use Rattle.script_file.proofs.Limits.{Counted, Placed}
-use Rattle.file_sections.specs.Sections.{orNone, inputsOf}
-use Rattle.file_sections.specs.Words.{tables, labelWords}
-use Rattle.file_sections.proofs.Labels.{length-padded}
+use Rattle.file_sections.specs.Sections.{inputsOf}
+use Rattle.file_sections.proofs.Labels.{length-lent}
 use Rattle.script_file.proofs.Answers.{number-within, refused-number, file-number, file-header, loads, within-limits, in-place}
 use Rattle.script_file.proofs.Findings.{recordsIn, codeIn, records-in, code-in}
 use Rattle.view.specs.Layout.{view}
@@ -98,10 +96,8 @@ no-records = refl
 
 -- the labels' words are as many as before, however the file loads
 pub length-words : (bs was ws : List ℕ) → length was ≡ 64 → ws ≡ wordsAfter bs was → length ws ≡ 64
-unfolding wordsAfter labelWords
-length-words bs was ws h e =
-    rw e
-    (cond-one (λ (l : List ℕ). length l ≡ 64) (eqb (refusal bs) 0) (λ _. length-padded 64 (tables (orNone (fileLabels bs)))) (λ _. h))
+unfolding wordsAfter
+length-words bs = length-lent (refusal bs) (fileLabels bs)
 
 pub stopped : (r : Refusal) → eqb (refusalNumber r) 0 ≡ false
 stopped r = ne-eqb (refusalNumber r) 0 (λ e. omega (arith, number-within r .0))
@@ -137,6 +133,5 @@ module _ (bs : List ℕ) (h : Header) (ws : List ℕ) (w : Loads bs h ws) (i : �
 
 -- ── one number for the answer ──
 
-pub call-answered : (bs : List ℕ) (i : ℕ) (b out : List ℕ) (r : Answer) → reads r out ≡ reading bs i b
-    → (codeOf r ≡ codeOf (reading bs i b .answer)) × (out ≡ reading bs i b .buffer)
-call-answered bs i b out r e = (ap (λ (q : Reading). codeOf (q .answer)) e, ap (λ (q : Reading). q .buffer) e)
+pub call-answered : (q : Reading) (out : List ℕ) (r : Answer) → reads r out ≡ q → (codeOf r ≡ codeOf (q .answer)) × (out ≡ q .buffer)
+call-answered q out r e = (ap (λ (x : Reading). codeOf (x .answer)) e, ap (λ (x : Reading). x .buffer) e)

@@ -21,13 +21,13 @@ refused : tie.Need-returns
 refused c =
     let n : tie.After-n = search in
     let r : tie.After-read = search in
-    call-answered _ _ _ _ (Refused (n .n .given .0 .0)) (known r (n .n .given .1))
+    call-answered _ _ (Refused (n .n .given .0 .0)) (known r (n .n .given .1))
 
 viewed : tie.Need-returns-2
 viewed c =
     let n : tie.After-n2 = search in
     let r : tie.After-read = search in
-    call-answered _ _ _ _ (Viewed (n .n2 .given .0 .0)) (known r (n .n2 .given .1))
+    call-answered _ _ (Viewed (n .n2 .given .0 .0)) (known r (n .n2 .given .1))
 
 pub nechwalu-read-spec : {M : Type 1} → statement M
 nechwalu-read-spec =

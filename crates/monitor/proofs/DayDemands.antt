@@ -1,0 +1,110 @@
+-- The three demands on a read of a day, as the open calls' contracts give them.
+use mathlib.Core.Bool.{Bool, true, false}
+use mathlib.Core.List.{List, [], _∷_, _++_}
+use mathlib.Core.Logic.{_⊎_, inl, inr}
+use mathlib.Core.Path.{_≡_, sym, subst₂}
+use Prim.Native.Nat.{ℕ, zero, suc, _≤_, _<_}
+use native.Mathlib.Omega.{arith}
+use lib.ListN.{length, length-append, drop}
+use Rattle.labels.specs.Order.{flows}
+use Rattle.labels.specs.declared.Label.{Label}
+use Rattle.model.specs.State.{Store}
+use Rattle.model.specs.Inputs.{inputSlots}
+use Rattle.model.specs.Running.{startStore}
+use Rattle.view.specs.Layout.{recordsAt, viewLength, view}
+use Rattle.view.specs.Reading.{Reading}
+use Rattle.view.specs.declared.Answer.{Answer}
+use Rattle.view.specs.declared.Answer.the-variants.{Viewed}
+use Rattle.view.proofs.Widths.{length-view}
+use Rattle.day_file.specs.declared.Job.{Job}
+use Rattle.day_file.specs.Sections.{dayHeader, dayLabel, dayInputs, dayJobs, jobsFrom}
+use Rattle.day_file.specs.Checks.{dayRefusal}
+use Rattle.day_file.proofs.Limits.{Fits}
+use Rattle.day_file.proofs.Tests.{AllJobs}
+use Rattle.day_file.proofs.Answers.{refusal-most, few-jobs, jobs-fit}
+use Rattle.day.specs.Running.{jobProgram, jobAccount, jobRun, storeAfter, admitted, turns, dayTurns}
+use Rattle.day.specs.Views.{skippedView, turnView, eachTurn, turnViews, dayView, dayReading}
+use Rattle.day.proofs.Views.{length-skipped}
+use Rattle.noninterference.specs.Alike.{SameReads}
+use Rattle.day_noninterference.specs.Alike.{DayAlike}
+use Rattle.day_noninterference.proofs.Demand3.{day-demand-3}
+use Rattle.reading.specs.Answers.{reads, codeOf}
+use Rattle.monitor.specs.Calls.{mostDayRefusal, told, SameCalls}
+use Rattle.monitor.proofs.Answered.{IsRefused, viewed, refused-or-viewed, answered-viewed, Bounded, answered-bounded, told-bounded, same-calls}
+use Rattle.monitor.proofs.Charged.{Charged, charged}
+
+-- ── demand 1: total ──
+
+-- Each job is skipped, or run to a result, a fault or spent steps within its declared steps and its places.
+abbrev pub EachJob : List ℕ → List Job → List Bool → Store → Type 0
+EachJob bs [] ads σ = Unit {0}
+EachJob bs (j ∷ js) [] σ = Unit {0}
+EachJob bs (j ∷ js) (true ∷ ads) σ = Charged (jobProgram bs j) (jobAccount bs j) σ × EachJob bs js ads (storeAfter bs j σ)
+EachJob bs (j ∷ js) (false ∷ ads) σ = EachJob bs js ads σ
+
+-- the views of a day, whose jobs are each skipped or run
+pub record IsDayViewed (bs : List ℕ) (i : ℕ) (b : List ℕ) (q : Reading) : Type 0 where
+  pub jobs : EachJob bs (dayJobs bs) (admitted (dayHeader bs .steps) (dayJobs bs)) (startStore (inputSlots (dayInputs bs)))
+  pub shown : q ≡ record { answer = Viewed (length (dayView bs i)); buffer = dayView bs i ++ drop (length (dayView bs i)) b }
+
+module _ (bs : List ℕ) where
+  each-job : (js : List Job) (ads : List Bool) (σ : Store) → AllJobs (Fits (dayHeader bs) (dayLabel bs)) js → EachJob bs js ads σ
+  unfolding jobAccount
+  each-job [] ads σ fit = tt
+  each-job (j ∷ js) [] σ fit = tt
+  each-job (j ∷ js) (true ∷ ads) σ fit = (charged (jobProgram bs j) (jobAccount bs j) σ (fit .0 .inputs-fit), each-job js ads (storeAfter bs j σ) (fit .1))
+  each-job (j ∷ js) (false ∷ ads) σ fit = each-job js ads σ (fit .1)
+
+  module _ (i : ℕ) (b : List ℕ) where
+    pub day-demand-1 : IsRefused mostDayRefusal b (dayReading bs i b) ⊎ IsDayViewed bs i b (dayReading bs i b)
+    unfolding dayReading
+    day-demand-1 =
+        either (refused-or-viewed mostDayRefusal (dayRefusal bs) (dayHeader bs .labels .count) (dayView bs i) i b (refusal-most bs) (omega arith))
+      where
+        either : IsRefused mostDayRefusal b (dayReading bs i b) ⊎ ((dayRefusal bs ≡ 0) × (dayReading bs i b ≡ viewed (dayView bs i) b))
+            → IsRefused mostDayRefusal b (dayReading bs i b) ⊎ IsDayViewed bs i b (dayReading bs i b)
+        either (inl r) = inl r
+        either (inr v) = inr (record { jobs = each-job _ _ _ (jobs-fit bs (v .0)); shown = v .1 })
+
+    -- ── demand 2: exact ──
+
+    -- A day that no check stops is run by the rules: the answer and the whole buffer are those of its jobs' views.
+    pub day-demand-2 : dayRefusal bs ≡ 0 → i < dayHeader bs .labels .count → length (dayView bs i) ≤ length b
+        → dayReading bs i b ≡ record { answer = Viewed (length (dayView bs i)); buffer = dayView bs i ++ drop (length (dayView bs i)) b }
+    unfolding dayReading
+    day-demand-2 = answered-viewed mostDayRefusal (dayRefusal bs) (dayHeader bs .labels .count) (dayView bs i) i b
+
+-- ── demand 3: silent, on two calls ──
+
+pub two-day-calls : (bs cs : List ℕ) (i : ℕ) (b d : List ℕ) (r q : Answer) (out back : List ℕ)
+    → reads r out ≡ dayReading bs i b → reads q back ≡ dayReading cs i d
+    → DayAlike bs cs i → length b ≡ length d → SameReads b d (reads r out) (reads q back)
+two-day-calls bs cs i b d r q out back e f A h = subst₂ (SameReads b d) (sym e) (sym f) (day-demand-3 bs cs i b d A h)
+
+-- ── the call for C and Rust, which answers one number ──
+
+-- the first of some jobs has a view, of 62 bytes at least
+views-least : (Reads : Label → Bool) (bs : List ℕ) (j : Job) (js : List Job) (left : ℕ) (σ : Store)
+    → recordsAt ≤ length (turnViews Reads (turns bs (j ∷ js) (admitted left (j ∷ js)) σ))
+views-least Reads bs j js left σ = ?
+
+day-least : (bs : List ℕ) (i : ℕ) → dayRefusal bs ≡ 0 → recordsAt ≤ length (dayView bs i)
+unfolding dayView dayTurns
+day-least bs i none = ?
+
+day-bounded : (bs : List ℕ) (i : ℕ) (b : List ℕ) → Bounded mostDayRefusal (dayReading bs i b .answer)
+unfolding dayReading
+day-bounded bs i b =
+    answered-bounded mostDayRefusal (dayRefusal bs) (dayHeader bs .labels .count) (dayView bs i) i b (refusal-most bs) (omega arith) ?
+
+-- The number tells the answer.
+pub day-code-tells : (bs : List ℕ) (i : ℕ) (b : List ℕ) → told (codeOf (dayReading bs i b .answer)) ≡ dayReading bs i b .answer
+day-code-tells bs i b = told-bounded mostDayRefusal (omega arith) (dayReading bs i b .answer) (day-bounded bs i b)
+
+-- Demand 3 on two calls of it.
+pub two-day-c-calls : (bs cs : List ℕ) (i : ℕ) (b d : List ℕ) (r q : ℕ) (out back : List ℕ)
+    → r ≡ codeOf (dayReading bs i b .answer) → out ≡ dayReading bs i b .buffer
+    → q ≡ codeOf (dayReading cs i d .answer) → back ≡ dayReading cs i d .buffer
+    → DayAlike bs cs i → length b ≡ length d → SameCalls mostDayRefusal b d r out q back
+two-day-c-calls bs cs i b d r q out back er eo eq eb A h =
+    rw (er, eo, eq, eb) (same-calls mostDayRefusal b d (dayReading bs i b) (dayReading cs i d) (day-bounded bs i b) (day-demand-3 bs cs i b d A h))
