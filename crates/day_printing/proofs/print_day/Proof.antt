@@ -1,63 +1,53 @@
+-- `day_printing::print_day` is safe and ends.
+use mathlib.Core.Path.{_≡_, refl, sym, _∙_}
+use Prim.Native.Nat.{ℕ, _≤_}
+use native.Mathlib.Nat.{le-of-eq}
+use native.Mathlib.Omega.{arith}
+use lib.ListN.{length, replicate, length-replicate}
+use Rattle.file_sections.proofs.Labels.{length-lent}
+use Rattle.day_file.specs.Sections.{dayLabels}
+use Rattle.day_file.specs.Checks.{dayRefusal}
+use Rattle.day_file.specs.Parts.{DayLoads}
+use Rattle.day_file.proofs.Answers.{refused-number, day-loads}
 use borrow.Author.Needs.{needs}
 use Rattle.day_printing.proofs.print_day.Statement.{statement}
 use Rattle.day_printing.proofs.print_day.Tie as tie
-use Rattle.day_printing.proofs.print_day.Reads as reads
-use Rattle.day_printing.proofs.print_day.Lts as lts
-use Rattle.day_file.proofs.load_day.Reads as load-day-reads
-use Rattle.day_printing.proofs.print_labels.Reads as print-labels-reads
-use Rattle.day_printing.proofs.print_refused.Reads as print-refused-reads
 
--- src/lib.rt:40:9
-load-day-requires : tie.Need-load-day-requires
-load-day-requires c κs = search needs
+-- by the lemma, since counting so many zeros takes the checker long
+long : 325776 ≡ length {A = ℕ} (replicate 325776 0)
+long = sym (length-replicate {A = ℕ} 325776 0)
 
--- src/lib.rt:42:25
-enum-known-loaded : tie.Need-enum-known-loaded
-enum-known-loaded c = search needs
+module _ (l : tie.After-load-day) where
+  abbrev begun : tie.Start
+  begun = search
 
--- src/lib.rt:42:45
-cast-print-refused : tie.Need-cast-print-refused
-cast-print-refused c = ?
+  as-many : length (l .load-day .last .1 .0) ≡ 64
+  as-many = length-lent (dayRefusal (begun .args .file .now)) (dayLabels (begun .args .file .now)) (replicate 64 0) _ refl (l .load-day .ensures .1)
 
--- src/lib.rt:42:31
-print-refused-requires : tie.Need-print-refused-requires
-print-refused-requires c κs = ?
+small : (f : tie.After-loaded) → f .loaded .given .0 .0 ≤ 10
+small f = let l : tie.After-load-day = search in refused-number _ _ (sym (f .loaded .given .1) ∙ l .load-day .ensures .0) .2
 
--- src/lib.rt:43:21
-enum-known-loaded-2 : tie.Need-enum-known-loaded-2
-enum-known-loaded-2 c = search needs
+module _ (f : tie.After-loaded2) where
+  abbrev load : tie.After-load-day
+  load = search
 
--- src/lib.rt:45:35
-slice-aggregate-print-labels : tie.Need-slice-aggregate-print-labels
-slice-aggregate-print-labels c = ?
+  loads : DayLoads (begun load .args .file .now) (f .loaded2 .given .0 .0) (load .load-day .last .1 .0)
+  loads = day-loads _ _ _ _ (sym (f .loaded2 .given .1) ∙ load .load-day .ensures .0) (load .load-day .ensures .1)
 
--- src/lib.rt:45:44
-slice-aggregate-print-labels-2 : tie.Need-slice-aggregate-print-labels-2
-slice-aggregate-print-labels-2 c = search needs
-
--- src/lib.rt:45:13
 print-labels-requires : tie.Need-print-labels-requires
-print-labels-requires c κs = ?
-
--- src/lib.rt:38:1
-returns : tie.Need-returns
-returns c = search needs
-
--- src/lib.rt:38:1
-returns-2 : tie.Need-returns-2
-returns-2 c = search needs
+print-labels-requires c κs = (loads (search), as-many (search), le-of-eq long)
 
 pub print-day-spec : {M : Type 1} → statement M
 print-day-spec =
     tie.close
     (tie.spec
-    load-day-requires
-    enum-known-loaded
-    cast-print-refused
-    print-refused-requires
-    enum-known-loaded-2
-    slice-aggregate-print-labels
-    slice-aggregate-print-labels-2
+    (search needs)
+    (search needs)
+    (λ c. omega (arith, small (search)))
+    (λ c κs. omega (arith, small (search)))
+    (search needs)
+    (λ c. sym (as-many (search)))
+    (λ c. long)
     print-labels-requires
-    returns
-    returns-2)
+    (search needs)
+    (search needs))
