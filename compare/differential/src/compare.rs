@@ -22,7 +22,7 @@ impl Comparison {
     /// buffers that are long, just long enough, and too short.
     pub fn file(&mut self, name: &str, file: &[u8], random: &mut Random) {
         self.files += 1;
-        let labels = File::parse_parts(file).map_or(0, |file| file.labels().len());
+        let labels = File::parse_parts(file).map_or(0, |file| file.parts.labels().len());
         let no_labels = [labels, labels + 1, labels + 256, usize::MAX];
         for reader in (0..labels).chain(no_labels) {
             let Ok(length) = self.one_read(name, file, reader, LONG_BUFFER) else { continue };
