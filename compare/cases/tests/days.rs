@@ -153,7 +153,7 @@ fn steps_used_are_the_job_s_own() {
 /// READ of the player's 33, caught: the player is shown the label that it raised.
 #[test]
 fn a_read_that_threw_has_raised() {
-    let front = format!("0100 0800 0700 0400 3e00 ce00 0100 {ZERO} {ZERO} {PLAYER} {TRUE}");
+    let front = format!("0100 0900 0700 0400 3e00 ce00 0100 {ZERO} {ZERO} {PLAYER} {TRUE}");
     let line = &lines("READ raises, then throws 33")[2 * 2 + 1];
     assert!(line.starts_with(&front), "{line}");
 }

@@ -91,7 +91,7 @@ fn days_are_refused_and_told_from_plain_files_by_the_option() {
     let cases: [(&[&str], &[u8], &str); 5] = [
         (&["--day"], &bad, "refused 10\n"),
         (&["--day"], &EXAMPLE, "refused 3\n"),
-        (&[], &day(), "refused 2\n"),
+        (&[], &day(), "refused 3\n"),
         (&["--day"], &[0; 65_536], "refused 1\n"),
         (&["--day"], &[], "refused 1\n"),
     ];
