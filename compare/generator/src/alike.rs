@@ -29,7 +29,12 @@ pub fn hidden_in(parts: &Parts, records_at: usize, reader: usize) -> Vec<usize> 
 
 /// Another file that is alike for `reader`, or `None` if nothing is hidden.
 pub fn other(random: &mut Random, file: &[u8], reader: usize) -> Option<Vec<u8>> {
-    let hidden = hidden_numbers(file, reader);
+    change_some(random, file, &hidden_numbers(file, reader))
+}
+
+/// The file with some of the numbers at `hidden` changed, or `None` if there are
+/// none.
+pub fn change_some(random: &mut Random, file: &[u8], hidden: &[usize]) -> Option<Vec<u8>> {
     if hidden.is_empty() {
         return None;
     }
@@ -43,13 +48,13 @@ pub fn other(random: &mut Random, file: &[u8], reader: usize) -> Option<Vec<u8>>
             number.copy_from_slice(&new.to_le_bytes());
         }
     };
-    for &at in &hidden {
+    for &at in hidden {
         if random.chance(50) {
             change(random, &mut other, at);
         }
     }
     if other == file {
-        let at = random.pick(&hidden);
+        let at = random.pick(hidden);
         other[at] ^= 1;
     }
     Some(other)
