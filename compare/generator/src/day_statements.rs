@@ -18,6 +18,10 @@ pub fn code(random: &mut Random, labels: &[Clauses], records: &[Input], steps: u
     if writer.random.chance(50) {
         writer.fill_locals();
     }
+    if writer.random.chance(30) {
+        // First, so that its places are those that an earlier job had.
+        writer.make_in_block();
+    }
     for _ in 0..writer.random.within(1, 4) {
         writer.day_statement(scope);
     }
@@ -61,9 +65,23 @@ impl Writer<'_> {
         }
     }
 
-    /// Leaves a value in an input reference, mostly the handle of a new record.
+    /// The input reference to leave something in, or to look at: often the first,
+    /// so that jobs meet.
+    fn meeting(&mut self) -> Option<u8> {
+        let first = self.records.iter().position(|record| record.kind == 1)?;
+        if self.random.chance(60) {
+            return Some(first as u8);
+        }
+        self.any_input(1)
+    }
+
+    /// Leaves a value in an input reference, mostly the handle of a new record,
+    /// and of the second one as often as not.
     fn leave(&mut self) {
-        let Some(reference) = self.any_input(1) else { return };
+        let Some(reference) = self.meeting() else { return };
+        if self.random.chance(50) {
+            self.code.push(1).ops(&[CUR, SEAL, POP]);
+        }
         let local = self.random.below(16) as u8;
         match self.random.below(10) {
             0..=3 => _ = self.code.get(local).ops(&[CUR, SEAL]),
@@ -80,7 +98,7 @@ impl Writer<'_> {
 
     /// Looks at what is in an input reference, and further if it is a handle.
     fn take(&mut self) {
-        let Some(reference) = self.any_input(1) else { return };
+        let Some(reference) = self.meeting() else { return };
         let look = |writer: &mut Self| {
             writer.code.input(reference).op(READ);
             match writer.random.below(6) {
@@ -105,7 +123,7 @@ impl Writer<'_> {
     /// A block whose body reads an input reference; its outcome is opened, left
     /// behind, or neither.
     fn take_in_block(&mut self) {
-        let Some(reference) = self.any_input(1) else { return };
+        let Some(reference) = self.meeting() else { return };
         let (body, after) = (self.code.target(), self.code.target());
         let outcome = self.random.pick(&SEALED);
         let steps = self.random.within(2, 12) as u16;
@@ -151,7 +169,7 @@ impl Writer<'_> {
     /// Opens a record and, as its number is, leaves a handle or a number where the
     /// record's label allows it.
     fn leave_by_number(&mut self) {
-        let (Some(reference), false) = (self.any_input(1), self.records.is_empty()) else { return };
+        let (Some(reference), false) = (self.meeting(), self.records.is_empty()) else { return };
         let record = self.random.below(self.records.len());
         let opens = if self.records[record].kind == 0 { OPEN } else { READ };
         let (body, zero, after) = (self.code.target(), self.code.target(), self.code.target());
