@@ -30,6 +30,12 @@ pub fn code(random: &mut Random, labels: &[Clauses], records: &[Input], steps: u
     if writer.random.chance(60) {
         writer.leave_guarded();
     }
+    if writer.random.chance(35) {
+        // In the open, so that the whole run is hidden from some; later jobs are
+        // not.
+        let manner = writer.any_manner();
+        writer.start(scope, manner);
+    }
     writer.finish(scope);
     writer.bodies();
     writer.code.bytes()
@@ -100,7 +106,13 @@ impl Writer<'_> {
     fn take(&mut self) {
         let Some(reference) = self.meeting() else { return };
         let look = |writer: &mut Self| {
-            writer.code.input(reference).op(READ);
+            writer.code.input(reference);
+            if writer.random.chance(10) {
+                // At the reference, and not at what it holds.
+                writer.code.op(LABOF);
+                return writer.set_number();
+            }
+            writer.code.op(READ);
             match writer.random.below(6) {
                 0 => _ = writer.code.op(OPEN),
                 1 => _ = writer.code.op(READ),

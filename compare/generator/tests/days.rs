@@ -5,8 +5,11 @@ use generator::day_coverage::DayCoverage;
 use generator::random::Random;
 use generator::{day_invalid, days};
 use reference::day::Day;
+use reference::jobs::{self, Outcome};
 use reference::limits::MAX_DAY;
 use reference::read_day;
+use reference::rules::Paper;
+use reference::value::{Content, Value};
 
 const DAYS: u64 = 10_000;
 
@@ -58,5 +61,24 @@ fn alike_days_differ_in_hidden_numbers_only() {
             pair.other[at..at + 4].fill(0);
         }
         assert_eq!(pair.file, pair.other, "seed {seed}");
+    }
+}
+
+/// So that it is the same whether handles are turned by their place alone, or only
+/// those whose record stood there as the job ended.
+#[test]
+fn every_handle_leads_to_a_record_as_a_job_ends() {
+    for seed in 0..DAYS {
+        let file = days::valid(seed);
+        let day = Day::parse(&file).expect("a valid day");
+        for outcome in jobs::run(&day, &Paper) {
+            let Outcome::Ran(finished) = outcome else { continue };
+            for (_, record) in finished.store.iter() {
+                let Content::Value(value) = record.content else { continue };
+                let Some(place) = value.place() else { continue };
+                let kind = finished.store.get(place).map(|record| record.kind);
+                assert_eq!(kind.map(|kind| Value::handle(kind, place)), Some(value), "seed {seed}");
+            }
+        }
     }
 }

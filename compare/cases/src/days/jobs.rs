@@ -7,7 +7,7 @@ use reference::limits::MAX_JOBS;
 use reference::script::{Clauses, Code};
 
 pub fn cases() -> Vec<DayCase> {
-    [counts(), fields(), spans(), starts()].concat()
+    [counts(), fields(), indices(), spans(), starts()].concat()
 }
 
 fn counts() -> Vec<DayCase> {
@@ -78,6 +78,22 @@ fn fields() -> Vec<DayCase> {
     cases.extend(field("257 places for a job", |job| job.places = 257));
     cases.extend(field("65,535 places for a job", |job| job.places = u16::MAX));
     cases
+}
+
+/// Label indices L where what stands behind the labels reads as a public one: the
+/// first record is sealed and its label is 0, so that it begins with two zeros.
+fn indices() -> Vec<DayCase> {
+    let wrong = |name: &str, set: fn(&mut JobEntry)| {
+        let mut day = of(&[five]);
+        day.records[0].label = label::PUBLIC;
+        set(&mut day.jobs[0]);
+        refused(name, 10, &day)
+    };
+    vec![
+        wrong("start label L before a public record", |job| job.label = 6),
+        wrong("clearance L before a public record", |job| job.clearance = 6),
+        wrong("both labels L before a public record", |job| (job.label, job.clearance) = (6, 6)),
+    ]
 }
 
 /// Each job of [`fields`]' days has 6 bytes of code, so that there are 96.
