@@ -3,9 +3,11 @@
 use crate::day_statements::code;
 use crate::random::Random;
 use crate::{day_invalid, parts};
+use reference::day::Day;
 use reference::day_script::{DayScript, JobEntry};
-use reference::limits::MAX_CODE;
+use reference::limits::{day_header, MAX_CODE};
 use reference::opcode::well_formed;
+use reference::rules::Paper;
 use reference::script::Clauses;
 
 /// The valid day of a seed.
@@ -131,4 +133,22 @@ fn steps(random: &mut Random, day: &DayScript) -> u32 {
         5..=10 => random.below(declared as usize + 1) as u32,
         _ => declared + random.below(200) as u32,
     }
+}
+
+/// The valid day `file` with as many steps as its first so many jobs declare, and
+/// with one step fewer.
+pub fn limits(file: &[u8]) -> Vec<Vec<u8>> {
+    let Ok(day) = Day::parse(file) else { return Vec::new() };
+    let with = |steps: u32| {
+        let mut variant = file.to_vec();
+        variant[day_header::STEPS..day_header::LENGTH].copy_from_slice(&steps.to_le_bytes());
+        variant
+    };
+    let mut declared = 0;
+    let mut variants = Vec::new();
+    for job in day.jobs(&Paper) {
+        declared += u32::from(job.steps);
+        variants.extend([with(declared - 1), with(declared)]);
+    }
+    variants
 }
