@@ -110,9 +110,8 @@ fn a_skipped_job_is_shown_alike_to_all() {
 
 /// The front of a view whose result is the number 5.
 fn five(steps: &str, next: &str, shown: &str, length: &str) -> String {
-    format!(
-        "0100 {steps} {next} {shown} 3e00 {length} 0100 0500000000000000 {ZERO} {TRUE} {TRUE} {CLEARANCE} {TRUE}"
-    )
+    let result = format!("0100 0500000000000000 {ZERO}");
+    format!("0100 {steps} {next} {shown} 3e00 {length} {result} {TRUE} {TRUE} {CLEARANCE} {TRUE}")
 }
 
 /// Public is shown two of the input records, and what job 1 left in one of them.

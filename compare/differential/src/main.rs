@@ -42,8 +42,8 @@ fn main() -> ExitCode {
     let names: Vec<&str> = IMPLEMENTATIONS.iter().map(|implementation| implementation.name).collect();
     let Comparison { files, pairs, days, day_pairs, reads, differences } = comparison;
     println!(
-        "{}: {files} files, {pairs} alike pairs, {days} days, {day_pairs} alike pairs of days, {reads} reads, \
-         {differences} differences",
+        "{}: {files} files, {pairs} alike pairs, {days} days, {day_pairs} alike pairs of days, \
+         {reads} reads, {differences} differences",
         names.join(" and ")
     );
     if differences == 0 {

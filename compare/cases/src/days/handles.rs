@@ -12,7 +12,7 @@ use reference::script::Code;
 use reference::value::{Ending, Value};
 
 pub fn cases() -> Vec<DayCase> {
-    [places(), reads(), raises(), blocks(), overwritten()].concat()
+    [places(), caught(), reads(), raises(), blocks(), overwritten()].concat()
 }
 
 /// Leaves the handle on top of the stack in `reference`.
@@ -100,7 +100,8 @@ fn body_made(code: &mut Code) {
     code.place(body).push(1).ops(&[CUR, NEW, END]);
 }
 
-fn reads() -> Vec<DayCase> {
+/// What a handler gets.
+fn caught() -> Vec<DayCase> {
     let caught = |name: &str, result, handler: fn(&mut Code)| {
         let mut day = of(&[leave_sealed]);
         add(&mut day, |code| {
@@ -113,13 +114,28 @@ fn reads() -> Vec<DayCase> {
         });
         ends(name, &[number(5), number(result)], &day)
     };
+    vec![
+        caught("33 is the code that is caught", 33, |code| _ = code.op(POP)),
+        caught("33 has the number 0", 0, |_| ()),
+        // READ's operand stays, below the two.
+        ends(
+            "a READ that threw left its operand",
+            &[number(5), reference_handle()],
+            &of(&[leave_sealed, |code| {
+                let caught = code.target();
+                code.input(REFERENCE_PUBLIC).try_to(caught).op(READ);
+                code.place(caught).ops(&[POP, POP, END]);
+            }]),
+        ),
+    ]
+}
+
+fn reads() -> Vec<DayCase> {
     let in_the_same_job = |code: &mut Code| {
         code.push(1).ops(&[CUR, SEAL]).input(REFERENCE_PUBLIC).op(WRITE);
         code.input(REFERENCE_PUBLIC).ops(&[READ, OPEN, END]);
     };
     vec![
-        caught("33 is the code that is caught", 33, |code| _ = code.op(POP)),
-        caught("33 has the number 0", 0, |_| ()),
         ends("the handle holds until its job ends", &[number(1), fault(33)], &of(&[in_the_same_job, read])),
         ends(
             "33 is there for every later job",
@@ -137,16 +153,6 @@ fn reads() -> Vec<DayCase> {
             &of(&[leave_hidden, |code| {
                 code.lab(label::PLAYER).input(REFERENCE_PLAYER).ops(&[LABOF, FLOWS]);
                 code.op(CUR).lab(label::PUBLIC).ops(&[FLOWS, SAME, END]);
-            }]),
-        ),
-        // The READ stays an operand below what the handler gets.
-        ends(
-            "a READ that threw left its operand",
-            &[number(5), reference_handle()],
-            &of(&[leave_sealed, |code| {
-                let caught = code.target();
-                code.input(REFERENCE_PUBLIC).try_to(caught).op(READ);
-                code.place(caught).ops(&[POP, POP, END]);
             }]),
         ),
     ]
@@ -205,12 +211,12 @@ fn in_block(code: &mut Code, bound: u8, reference: u8, after: impl FnOnce(&mut C
     code.place(body).input(reference).ops(&[READ, END]);
 }
 
+fn open(code: &mut Code) {
+    code.ops(&[OPEN, END]);
+}
+
 fn blocks() -> Vec<DayCase> {
-    let opened = |code: &mut Code| {
-        in_block(code, label::PUBLIC, REFERENCE_PUBLIC, |code| {
-            code.ops(&[OPEN, END]);
-        })
-    };
+    let opened = |code: &mut Code| in_block(code, label::PUBLIC, REFERENCE_PUBLIC, open);
     let unopened = |code: &mut Code| {
         in_block(code, label::PUBLIC, REFERENCE_PUBLIC, |code| {
             code.op(POP);
@@ -224,11 +230,7 @@ fn blocks() -> Vec<DayCase> {
             code.place(caught).ops(&[POP, END]);
         })
     };
-    let passed = |code: &mut Code| {
-        in_block(code, label::PUBLIC, REFERENCE_PLAYER, |code| {
-            code.ops(&[OPEN, END]);
-        })
-    };
+    let passed = |code: &mut Code| in_block(code, label::PUBLIC, REFERENCE_PLAYER, open);
     // The outcome that held 33 is gone too, and its handle is 33 in turn.
     let sealed_on = |code: &mut Code| {
         in_block(code, label::PUBLIC, REFERENCE_PUBLIC, |code| {

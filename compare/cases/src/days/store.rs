@@ -10,7 +10,7 @@ use reference::script::Code;
 use reference::value::{Ending, Fault, Value};
 
 pub fn cases() -> Vec<DayCase> {
-    [contents(), endings(), fresh(), between()].concat()
+    [contents(), used(), endings(), places(), starts(), between()].concat()
 }
 
 fn gives(value: Value) -> JobEnds {
@@ -30,6 +30,7 @@ fn add_one(code: &mut Code) {
     read_public(code);
 }
 
+/// What is left in a reference is there for all later jobs.
 fn contents() -> Vec<DayCase> {
     let player = Value::Label(Label { secrecy: 0xAAAA_AAAA_AAAA_AAAA, integrity: TRUE });
     let passes = |name: &str, value, write: fn(&mut Code)| {
@@ -50,6 +51,12 @@ fn contents() -> Vec<DayCase> {
         passes("a handle to an input reference is kept", Value::Reference(3), |code| {
             code.input(REFERENCE_PUBLIC);
         }),
+    ]
+}
+
+/// What later jobs do with it.
+fn used() -> Vec<DayCase> {
+    vec![
         ends("a count goes on", &[number(7), number(8), number(9)], &of(&[add_one, add_one, add_one])),
         ends(
             "sealed inputs stay",
@@ -100,23 +107,23 @@ fn endings() -> Vec<DayCase> {
     ]
 }
 
-/// What does not pass from job to job.
-fn fresh() -> Vec<DayCase> {
+/// Every job has its own places, from C on.
+fn places() -> Vec<DayCase> {
     let first_new = |code: &mut Code| _ = code.push(1).ops(&[CUR, NEW, END]);
     let handle = gives(Value::Reference(FIRST));
-    let mut own = of(&[|code| _ = code.op(CUR).end(), |code| _ = code.op(CLR).end()]);
-    for job in &mut own.jobs {
-        (job.label, job.clearance) = (label::VOUCHED, label::DEALER);
-    }
-    let vouched = Value::Label(Label { secrecy: TRUE, integrity: 0xF0F0_F0F0_F0F0_F0F0 });
-    let dealer = Value::Label(Label { secrecy: 0xCCCC_CCCC_CCCC_CCCC, integrity: TRUE });
     let mut places = of(&[first_new, first_new, first_new]);
     places.jobs[0].places = 256;
     places.jobs[1].places = INPUTS;
     vec![
         ends("new records take the same place again", &[handle, handle], &of(&[first_new, first_new])),
         ends("each job has its own places", &[handle, fault(26), handle], &places),
-        ends("a job's own label and clearance", &[gives(vouched), gives(dealer)], &own),
+    ]
+}
+
+/// Every job starts as its entry says, with nothing of the job before.
+fn starts() -> Vec<DayCase> {
+    vec![
+        own_labels(),
         ends(
             "locals are not kept",
             &[number(5), number(0)],
@@ -127,18 +134,7 @@ fn fresh() -> Vec<DayCase> {
             &[number(2), fault(20)],
             &of(&[|code| _ = code.push(1).push(2).end(), |code| _ = code.end()]),
         ),
-        ends(
-            "frames are not kept",
-            &[number(5), fault(20)],
-            &of(&[
-                |code| {
-                    let handler = code.target();
-                    code.try_to(handler).place(handler);
-                    five(code);
-                },
-                |code| _ = code.op(POP).end(),
-            ]),
-        ),
+        frames(),
         ends(
             "a raised label is not kept",
             &[number(7), number(1)],
@@ -156,6 +152,26 @@ fn fresh() -> Vec<DayCase> {
             ]),
         ),
     ]
+}
+
+fn frames() -> DayCase {
+    let try_and_end = |code: &mut Code| {
+        let handler = code.target();
+        code.try_to(handler).place(handler);
+        five(code);
+    };
+    let pops = |code: &mut Code| _ = code.op(POP).end();
+    ends("frames are not kept", &[number(5), fault(20)], &of(&[try_and_end, pops]))
+}
+
+fn own_labels() -> DayCase {
+    let mut own = of(&[|code| _ = code.op(CUR).end(), |code| _ = code.op(CLR).end()]);
+    for job in &mut own.jobs {
+        (job.label, job.clearance) = (label::VOUCHED, label::DEALER);
+    }
+    let vouched = Value::Label(Label { secrecy: TRUE, integrity: 0xF0F0_F0F0_F0F0_F0F0 });
+    let dealer = Value::Label(Label { secrecy: 0xCCCC_CCCC_CCCC_CCCC, integrity: TRUE });
+    ends("a job's own label and clearance", &[gives(vouched), gives(dealer)], &own)
 }
 
 /// A skipped job between two others.
