@@ -7,7 +7,7 @@ use reference::day::Day;
 use reference::day_script::{DayScript, JobEntry};
 use reference::file::File;
 use reference::jobs::{run, Outcome};
-use reference::limits::{header, view, MAX_DAY};
+use reference::limits::{day_header, header, view, MAX_DAY};
 use reference::rules::Paper;
 use reference::{print, read_day};
 use std::collections::HashSet;
@@ -32,6 +32,12 @@ fn every_day_ends_as_expected() {
 }
 
 #[test]
+fn the_example_prints_its_lines() {
+    let day = include_bytes!("../../../examples/counter_day.day");
+    assert_eq!(print::day_lines(day), include_str!("../../../examples/counter_day.expected"));
+}
+
+#[test]
 fn names_tell_days_apart() {
     let cases = days::all();
     let names: HashSet<&str> = cases.iter().map(|case| case.name.as_str()).collect();
@@ -53,7 +59,7 @@ fn as_day(file: &[u8]) -> Vec<u8> {
         code_length: field(header::CODE_LENGTH),
     };
     let empty = DayScript { jobs: vec![job], steps: job.steps.into(), ..DayScript::default() };
-    let entry = &empty.bytes()[20..];
+    let entry = &empty.bytes()[day_header::LENGTH..];
     let mut day = Vec::new();
     let shifted = [records_at + 4, 1, code_at + 4, field(header::CODE_LENGTH), code_at + 16];
     for number in [field(header::LABEL_COUNT), 20, field(header::RECORD_COUNT)].into_iter().chain(shifted) {

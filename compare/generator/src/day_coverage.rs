@@ -4,7 +4,7 @@
 use reference::day::Day;
 use reference::day_rules::DayRules;
 use reference::label::Label;
-use reference::limits::{day_header, MAX_DAY};
+use reference::limits::{day_header, job, MAX_DAY};
 use reference::machine::Finished;
 use reference::opcode::*;
 use reference::parts::Job;
@@ -96,8 +96,10 @@ impl DayCoverage {
     fn add_jobs(&self, file: &[u8]) {
         let at = |at: usize| usize::from(u16::from_le_bytes([file[at], file[at + 1]]));
         let (jobs_at, code_at) = (at(day_header::JOBS_AT), at(day_header::CODE_AT));
-        let spans: Vec<(usize, usize, u8)> =
-            (jobs_at..code_at).step_by(12).map(|job| (at(job + 8), at(job + 10), file[job])).collect();
+        let spans: Vec<(usize, usize, u8)> = (jobs_at..code_at)
+            .step_by(job::LENGTH)
+            .map(|entry| (at(entry + job::CODE_AT), at(entry + job::CODE_LENGTH), file[entry + job::CALLER]))
+            .collect();
         for (second, &(start, length, caller)) in spans.iter().enumerate() {
             for &(earlier, earlier_length, other) in &spans[..second] {
                 if start < earlier + earlier_length && earlier < start + length {

@@ -3,10 +3,10 @@
 use crate::day_list::DayMutant;
 use reference::day_rules::DayRules;
 use reference::label::Label;
-use reference::limits::LOCALS;
+use reference::limits::{view, LOCALS};
 use reference::machine::Finished;
 use reference::opcode::*;
-use reference::parts::Job;
+use reference::parts::{short, Job};
 use reference::rules::{Paper, Raiser, Rules};
 use reference::run::Run;
 use reference::store::Store;
@@ -231,7 +231,7 @@ fn rebased(code: &[u8], start: usize) -> Vec<u8> {
     let mut at = 0;
     while let Some(shape) = code.get(at).and_then(|&opcode| SHAPES.get(opcode as usize)) {
         if matches!(code[at], JUMP | IFZ | BLOCK | TRY) && at + 2 < code.len() {
-            let target = usize::from(u16::from_le_bytes([code[at + 1], code[at + 2]]));
+            let target = usize::from(short(&code, at + 1));
             let target = target.checked_sub(start).unwrap_or(usize::from(u16::MAX)) as u16;
             code[at + 1..at + 3].copy_from_slice(&target.to_le_bytes());
         }
@@ -244,7 +244,7 @@ fn rebased(code: &[u8], start: usize) -> Vec<u8> {
 fn whole_views(views: &[u8], room: usize) -> usize {
     let mut at = 0;
     while at < views.len() {
-        let end = at + usize::from(u16::from_le_bytes([views[at + 10], views[at + 11]]));
+        let end = at + usize::from(short(views, at + view::LENGTH));
         if end > room {
             break;
         }
