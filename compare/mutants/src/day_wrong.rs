@@ -42,7 +42,7 @@ impl WrongDay {
         }
     }
 
-    fn forget(&self, store: &mut Store, inputs: usize, last: Label) {
+    fn replace_handles(&self, store: &mut Store, inputs: usize, last: Label) {
         for record in store.records_mut() {
             let Content::Value(value) = record.content else { continue };
             let Some(place) = value.place() else { continue };
@@ -160,7 +160,7 @@ impl DayRules for WrongDay {
         if !self.is(DayMutant::RecordsLeft) {
             store.empty_from(inputs);
         }
-        self.forget(&mut store, inputs, finished.label);
+        self.replace_handles(&mut store, inputs, finished.label);
         store
     }
 
@@ -204,7 +204,7 @@ impl DayRules for WrongDay {
 
     fn ended(&self, finished: &mut Finished, job: &Job, left: u32, inputs: usize) {
         match self.mutant {
-            DayMutant::TurnedTooSoon => finished.store.forget_from(inputs),
+            DayMutant::TurnedTooSoon => finished.store.replace_handles_from(inputs),
             DayMutant::EmptiedTooSoon => finished.store.empty_from(inputs),
             DayMutant::StepsOfDay => {
                 finished.steps_used = (left - u32::from(job.steps - finished.steps_used)) as u16;

@@ -43,7 +43,7 @@ pub trait DayRules: Rules {
     fn handed_on(&self, _before: Store, finished: &Finished, inputs: usize) -> Store {
         let mut store = finished.store.clone();
         store.empty_from(inputs);
-        store.forget_from(inputs);
+        store.replace_handles_from(inputs);
         store
     }
 

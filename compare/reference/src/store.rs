@@ -46,10 +46,10 @@ impl Store {
         self.records.truncate(first);
     }
 
-    /// Has contents that are a handle to a place from `first` on become fault
-    /// 33, whether a record stands there or not.
-    pub fn forget_from(&mut self, first: usize) {
-        for record in self.records.iter_mut().flatten() {
+    /// Puts fault 33 in place of contents that are a handle to a place from
+    /// `first` on, whether a record stands there or not.
+    pub fn replace_handles_from(&mut self, first: usize) {
+        for record in self.records_mut() {
             if let Content::Value(value) = record.content {
                 if value.place().is_some_and(|place| usize::from(place) >= first) {
                     record.content = Content::Fault(Fault::VANISHED);
@@ -58,7 +58,7 @@ impl Store {
         }
     }
 
-    /// All contents, to be changed.
+    /// All records, to be changed.
     pub fn records_mut(&mut self) -> impl Iterator<Item = &mut Record> {
         self.records.iter_mut().flatten()
     }

@@ -54,7 +54,7 @@ impl Fault {
     pub const ABOVE_BOUND: Fault = Fault::plain(31);
     /// The outcome of a body that was spent.
     pub const SPENT: Fault = Fault::plain(32);
-    /// What a day has become of a handle once its record is gone.
+    /// What a handle in an input record becomes once a job's new records vanish.
     pub const VANISHED: Fault = Fault::plain(33);
 
     pub const fn plain(code: u8) -> Fault {

@@ -1,9 +1,10 @@
 //! Which jobs run, and what the day is charged for them.
 
-use super::{add, day, ends, fault, five, number, DayCase, JobEnds};
+use super::{add, day, ends, fault, five, number, DayCase, JobEnds, FIRST};
+use crate::label;
 use reference::opcode::THROW;
 use reference::script::Code;
-use reference::value::{Ending, Fault};
+use reference::value::{Ending, Fault, Value};
 use JobEnds::Skipped;
 
 pub fn cases() -> Vec<DayCase> {
@@ -21,12 +22,13 @@ fn declaring(name: &str, steps: u32, declared: &[u16], expected: &[JobEnds]) -> 
     ends(name, expected, &day)
 }
 
-const RUNS: JobEnds = JobEnds::Ends(Ending::Result(reference::value::Value::Number(5)));
+const SPENT: JobEnds = JobEnds::Ends(Ending::Spent);
+const RUNS: JobEnds = JobEnds::Ends(Ending::Result(Value::Number(5)));
 
 fn limits() -> Vec<DayCase> {
     vec![
         declaring("a day of 0 steps", 0, &[2, 65_535], &[Skipped, Skipped]),
-        declaring("a day of 1 step", 1, &[2, 1], &[Skipped, JobEnds::Ends(Ending::Spent)]),
+        declaring("a day of 1 step", 1, &[2, 1], &[Skipped, SPENT]),
         declaring("exactly used up", 20, &[10, 10, 1], &[RUNS, RUNS, Skipped]),
         declaring("one step short", 19, &[10, 10], &[RUNS, Skipped]),
         declaring("all in one job", 300, &[300, 1, 300], &[RUNS, Skipped, Skipped]),
@@ -63,33 +65,29 @@ fn after(name: &str, ending: Ending, write: fn(&mut Code)) -> DayCase {
     ends(name, &[JobEnds::Ends(ending), Skipped, number(5)], &day)
 }
 
-/// Days whose steps need the header's last number.
+/// Days whose steps need all 32 bits, and jobs with many steps.
 fn large() -> Vec<DayCase> {
     let all = [u16::MAX; 16];
     let all_but_one = [[RUNS; 15].as_slice(), &[Skipped]].concat();
-    let mut blocks = day();
-    blocks.steps = 2000;
-    // A block is charged within its job, and the job's steps once.
-    let block = |code: &mut Code| {
-        let body = code.target();
-        code.lab(0).block(body, 900, 0).end();
-        code.place(body).push(1).end();
-    };
-    add(&mut blocks, block);
-    add(&mut blocks, |code| _ = code.end());
     vec![
-        declaring("a day of 65,536 steps", 65_536, &[u16::MAX, 2, 1], &[RUNS, Skipped, one_step()]),
+        declaring("a day of 65,536 steps", 65_536, &[u16::MAX, 2, 1], &[RUNS, Skipped, SPENT]),
         declaring("16 times 65,535 steps", 16 * 65_535, &all, &[RUNS; 16]),
         declaring("one step fewer than 16 times 65,535", 16 * 65_535 - 1, &all, &all_but_one),
         declaring("a day of 4,294,967,295 steps", u32::MAX, &all, &[RUNS; 16]),
-        ends(
-            "a block's steps are the job's",
-            &[JobEnds::Ends(Ending::Result(reference::value::Value::Sealed(7))), fault(20)],
-            &blocks,
-        ),
+        block(),
     ]
 }
 
-fn one_step() -> JobEnds {
-    JobEnds::Ends(Ending::Spent)
+/// A block is charged to its job, and to the day only with the job's steps.
+fn block() -> DayCase {
+    let mut day = day();
+    day.steps = 2000;
+    add(&mut day, |code| {
+        let body = code.target();
+        code.lab(label::PUBLIC).block(body, 900, 0).end();
+        code.place(body).push(1).end();
+    });
+    add(&mut day, |code| _ = code.end());
+    let handle = JobEnds::Ends(Ending::Result(Value::Sealed(FIRST)));
+    ends("a block's steps are the job's", &[handle, fault(20)], &day)
 }

@@ -45,7 +45,7 @@ fn refused_spans() -> Vec<DayCase> {
         wrong("cut operand", &[PUSH, 5, 0, 0]),
         wrong("cut JUMP", &[JUMP, 0]),
         cut("a target past the span, inside the code", &[JUMP, 4, 0, END, CUR, END], 0, 4),
-        cut("a target behind the span, inside the code", &[CUR, END, JUMP, 254, 255], 2, 3),
+        cut("a target before the span, modulo 2^16", &[CUR, END, JUMP, 254, 255], 2, 3),
         cut("a span that cuts an instruction", &[CUR, END, PUSH, 5, 0, 0, 0, END], 0, 5),
         cut("a span that cuts a JUMP", &[JUMP, 0, 0], 0, 2),
         cut("a span that ends before END", &[CUR, END], 0, 1),
@@ -62,7 +62,7 @@ fn taken_spans() -> Vec<DayCase> {
     let five_in = |name: &str, code: &[u8], at, length| ends(name, &[number(5)], &span(code, at, length));
     let pushed = [PUSH, 5, 0, 0, 0, END];
     let unknown = [0xFF, 0x1E, PUSH, 5, 0, 0, 0, END, 0xFF, PUSH];
-    // PUSH 5, END; from 1 on: SET's byte, POP and four ENDs.
+    // From 1 on it is POP and four ENDs.
     let mut overlapping = span(&pushed, 0, 6);
     overlapping.jobs.push(overlapping.jobs[0]);
     (overlapping.jobs[1].code_at, overlapping.jobs[1].code_length) = (1, 5);
@@ -71,7 +71,7 @@ fn taken_spans() -> Vec<DayCase> {
     let mut jumps = span(&[JUMP, 3, 0, PUSH, 5, 0, 0, 0, END], 0, 9);
     jumps.jobs.push(jumps.jobs[0]);
     (jumps.jobs[1].code_at, jumps.jobs[1].code_length) = (3, 6);
-    // The first job ends within the second's PUSH.
+    // The second job is one byte of the first's PUSH.
     let mut nested = span(&[CUR, POP, PUSH, END, END, END, END, END], 0, 8);
     nested.jobs.push(nested.jobs[0]);
     (nested.jobs[1].code_at, nested.jobs[1].code_length) = (3, 1);
