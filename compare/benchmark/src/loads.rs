@@ -1,6 +1,7 @@
 //! The files that are timed.
 
-use reference::limits::{view, MAX_CODE, MAX_PLACES, MAX_RECORDS, MAX_VIEW};
+use reference::day_script::{DayScript, JobEntry};
+use reference::limits::{view, MAX_CODE, MAX_DAY, MAX_JOBS, MAX_PLACES, MAX_RECORDS, MAX_VIEW};
 use reference::opcode::*;
 use reference::script::{Clauses, Code, Input, Script};
 
@@ -13,30 +14,61 @@ pub enum Unit {
     Read,
 }
 
+/// What a load is read as.
+#[derive(Clone, Copy, Debug, PartialEq, Eq)]
+pub enum Kind {
+    Plain,
+    Day,
+}
+
 pub struct Load {
     pub name: &'static str,
+    pub kind: Kind,
     pub file: Vec<u8>,
     pub reader: usize,
     pub unit: Unit,
 }
 
 impl Load {
+    /// A buffer for whatever is read.
+    pub fn buffer(&self) -> Vec<u8> {
+        match self.kind {
+            Kind::Plain => vec![0; MAX_VIEW],
+            Kind::Day => vec![0; MAX_DAY],
+        }
+    }
+
     /// How many units one read is.
     pub fn units(&self) -> u32 {
         match self.unit {
             Unit::Read => 1,
-            Unit::Step => {
-                let mut buffer = [0; MAX_VIEW];
-                reference::read(&self.file, self.reader, &mut buffer).expect("loads by step are valid");
-                u16::from_le_bytes([buffer[view::STEPS], buffer[view::STEPS + 1]]).into()
-            }
+            Unit::Step => self.steps(),
         }
+    }
+
+    /// The steps used, in all views.
+    fn steps(&self) -> u32 {
+        let mut buffer = self.buffer();
+        let read = match self.kind {
+            Kind::Plain => reference::read,
+            Kind::Day => reference::read_day,
+        };
+        let length = read(&self.file, self.reader, &mut buffer).expect("loads by step are valid");
+        let field = |at: usize| u16::from_le_bytes([buffer[at], buffer[at + 1]]);
+        let (mut at, mut steps) = (0, 0);
+        while at < length {
+            steps += u32::from(field(at + view::STEPS));
+            at += usize::from(field(at + view::LENGTH));
+        }
+        steps
     }
 }
 
 pub fn loads() -> Vec<Load> {
-    let by_step = |name, script: Script| Load { name, file: script.bytes(), reader: 1, unit: Unit::Step };
-    let by_read = |name, script: Script| Load { name, file: script.bytes(), reader: 1, unit: Unit::Read };
+    let plain =
+        |name, script: Script, unit| Load { name, kind: Kind::Plain, file: script.bytes(), reader: 1, unit };
+    let by_step = |name, script| plain(name, script, Unit::Step);
+    let by_read = |name, script| plain(name, script, Unit::Read);
     vec![
         by_step("arithmetic loop", endless(arithmetic)),
         by_step("record loop", endless(records)),
@@ -45,7 +77,35 @@ pub fn loads() -> Vec<Load> {
         by_step("throw/catch loop", endless(throw)),
         by_read("refused late", refused_late()),
         by_read("view of 256 records", full_view()),
+        Load { name: "day of 16 jobs", kind: Kind::Day, file: day().bytes(), reader: 1, unit: Unit::Step },
     ]
+}
+
+/// Sixteen jobs in turn, the arithmetic loop and the record loop, each until it is
+/// spent. They share the code of the two.
+fn day() -> DayScript {
+    let loops = [endless(arithmetic), endless(records)];
+    let mut day = DayScript {
+        labels: loops[0].labels.clone(),
+        records: loops[0].records.clone(),
+        steps: u32::MAX,
+        ..DayScript::default()
+    };
+    let spans = loops.map(|script| day.add_code(&script.code));
+    for caller in 0..MAX_JOBS as u8 {
+        let (code_at, code_length) = spans[usize::from(caller) % spans.len()];
+        day.jobs.push(JobEntry {
+            caller,
+            label: 0,
+            clearance: 1,
+            zero: 0,
+            steps: u16::MAX,
+            places: MAX_PLACES as u16,
+            code_at,
+            code_length,
+        });
+    }
+    day
 }
 
 fn script(code: &Code) -> Script {
@@ -156,6 +216,7 @@ mod tests {
         for name in ["arithmetic loop", "record loop", "throw/catch loop"] {
             assert_eq!(load(name).units(), 65_535, "{name}");
         }
+        assert_eq!(load("day of 16 jobs").units(), 16 * 65_535);
     }
 
     /// Their bodies end with their last step, so that every charged step is

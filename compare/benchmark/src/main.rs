@@ -4,17 +4,31 @@
 mod loads;
 mod stack;
 
-use loads::{loads, Load, Unit};
-use reference::limits::MAX_VIEW;
+use loads::{loads, Kind, Load, Unit};
 use std::hint::black_box;
 use std::time::{Duration, Instant};
 
 type Read = fn(&[u8], usize, &mut [u8]) -> Result<usize, u8>;
 
-const IMPLEMENTATIONS: &[(&str, Read)] = &[
-    ("reference", reference::read),
+struct Implementation {
+    name: &'static str,
+    read: Read,
+    read_day: Read,
+}
+
+impl Implementation {
+    fn read(&self, load: &Load) -> Read {
+        match load.kind {
+            Kind::Plain => self.read,
+            Kind::Day => self.read_day,
+        }
+    }
+}
+
+const IMPLEMENTATIONS: &[Implementation] = &[
+    Implementation { name: "reference", read: reference::read, read_day: reference::read_day },
     #[cfg(feature = "proved")]
-    ("proved", nechwalu::read),
+    Implementation { name: "proved", read: nechwalu::read, read_day: nechwalu::read_day },
 ];
 
 const ROUNDS: usize = 200;
@@ -31,8 +45,9 @@ fn main() {
         let figures: Vec<String> = IMPLEMENTATIONS
             .iter()
             .zip(&best)
-            .map(|(&(name, read), nanoseconds)| {
-                format!("{name} {nanoseconds:.2} ns, stack {}", peak_stack(&load, read))
+            .map(|(implementation, nanoseconds)| {
+                let stack = peak_stack(&load, implementation.read(&load));
+                format!("{} {nanoseconds:.2} ns, stack {stack}", implementation.name)
             })
             .collect();
         let unit = match load.unit {
@@ -50,10 +65,11 @@ fn main() {
 /// For each implementation the best time of one unit, in nanoseconds.
 fn best_times(load: &Load) -> Vec<f64> {
     let units = f64::from(load.units());
-    let repeats: Vec<u32> = IMPLEMENTATIONS.iter().map(|&(_, read)| repeats(load, read)).collect();
+    let repeats: Vec<u32> = IMPLEMENTATIONS.iter().map(|one| repeats(load, one.read(load))).collect();
     let mut best = vec![f64::INFINITY; IMPLEMENTATIONS.len()];
     for round in 0..ROUNDS {
-        for (at, &(_, read)) in IMPLEMENTATIONS.iter().enumerate() {
+        for (at, implementation) in IMPLEMENTATIONS.iter().enumerate() {
+            let read = implementation.read(load);
             let mut taken = Duration::ZERO;
             deeper(round % PLACES, &mut || taken = time(load, read, repeats[at]));
             best[at] = best[at].min(taken.as_nanos() as f64 / f64::from(repeats[at]) / units);
@@ -83,7 +99,7 @@ fn repeats(load: &Load, read: Read) -> u32 {
 }
 
 fn time(load: &Load, read: Read, repeats: u32) -> Duration {
-    let mut buffer = [0; MAX_VIEW];
+    let mut buffer = load.buffer();
     let start = Instant::now();
     for _ in 0..repeats {
         _ = black_box(read(black_box(&load.file), load.reader, &mut buffer));
@@ -92,6 +108,6 @@ fn time(load: &Load, read: Read, repeats: u32) -> Duration {
 }
 
 fn peak_stack(load: &Load, read: Read) -> usize {
-    let mut buffer = vec![0; MAX_VIEW];
+    let mut buffer = load.buffer();
     stack::peak(|| _ = black_box(read(&load.file, load.reader, &mut buffer)))
 }

@@ -3,6 +3,7 @@
 pub mod blocks;
 pub mod bounds;
 pub mod catching;
+pub mod days;
 pub mod faults;
 pub mod order;
 pub mod paper;
@@ -82,7 +83,31 @@ pub const FREE_PLACES: u8 = 20;
 
 /// The parts that most cases share. It starts public.
 pub fn script(code: &Code) -> Script {
-    let records = vec![
+    let records = records();
+    Script {
+        labels: labels(),
+        places: records.len() as u16 + u16::from(FREE_PLACES),
+        records,
+        code: code.bytes(),
+        steps: 1000,
+    }
+}
+
+/// The labels that the module [`label`] names.
+fn labels() -> Vec<Clauses> {
+    vec![
+        Clauses::new(&[], &[]),
+        Clauses::new(&[1, 2, 4], &[]),
+        Clauses::new(&[1], &[]),
+        Clauses::new(&[2], &[]),
+        Clauses::new(&[0], &[]),
+        Clauses::new(&[], &[4]),
+    ]
+}
+
+/// The input records that the module [`record`] names.
+fn records() -> Vec<Input> {
+    vec![
         Input::sealed(label::PLAYER, 7),
         Input::sealed(label::ABOVE, 9),
         Input::reference(label::PLAYER, 5),
@@ -90,21 +115,7 @@ pub fn script(code: &Code) -> Script {
         Input::reference(label::ABOVE, 8),
         Input::sealed(label::PUBLIC, 1),
         Input::sealed(label::DEALER, 2),
-    ];
-    Script {
-        labels: vec![
-            Clauses::new(&[], &[]),
-            Clauses::new(&[1, 2, 4], &[]),
-            Clauses::new(&[1], &[]),
-            Clauses::new(&[2], &[]),
-            Clauses::new(&[0], &[]),
-            Clauses::new(&[], &[4]),
-        ],
-        places: records.len() as u16 + u16::from(FREE_PLACES),
-        records,
-        code: code.bytes(),
-        steps: 1000,
-    }
+    ]
 }
 
 /// A case on the shared parts.

@@ -1,5 +1,8 @@
 //! The corpus: hand-worked files, pairs that tell mutants from the original,
-//! and a choice of generated files. It is the same every time.
+//! and a choice of generated files. It is the same every time. That of days is
+//! in [`days`].
+
+pub mod days;
 
 use generator::random::Random;
 use generator::{alike, exhaust, invalid};

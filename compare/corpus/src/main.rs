@@ -1,17 +1,25 @@
 //! Writes the corpus into a folder: `batch.bin` (the files), `expected.txt`
-//! (what is to be printed for them) and `index.txt` (their names).
+//! (what is to be printed for them) and `index.txt` (their names). With `--days`,
+//! the corpus of days.
 
+use corpus::{days, Entry};
 use std::path::Path;
 use std::process::ExitCode;
 use std::{env, fs, io};
 
 fn main() -> ExitCode {
     let arguments: Vec<String> = env::args().skip(1).collect();
-    let [folder] = &arguments[..] else {
-        eprintln!("usage: corpus OUTDIR");
-        return ExitCode::FAILURE;
+    let (folder, outcome) = match arguments.iter().map(String::as_str).collect::<Vec<_>>()[..] {
+        ["--days", folder] => (folder, write(Path::new(folder), "days", days::entries(), days::expected)),
+        [folder] if folder != "--days" => {
+            (folder, write(Path::new(folder), "files", corpus::entries(), corpus::expected))
+        }
+        _ => {
+            eprintln!("usage: corpus [--days] OUTDIR");
+            return ExitCode::FAILURE;
+        }
     };
-    match write(Path::new(folder)) {
+    match outcome {
         Ok(()) => ExitCode::SUCCESS,
         Err(error) => {
             eprintln!("corpus: cannot write to {folder}: {error}");
@@ -20,15 +28,14 @@ fn main() -> ExitCode {
     }
 }
 
-fn write(folder: &Path) -> io::Result<()> {
-    let entries = corpus::entries();
-    let (batch, expected) = (corpus::batch(&entries), corpus::expected(&entries));
+fn write(folder: &Path, kind: &str, entries: Vec<Entry>, lines: fn(&[Entry]) -> String) -> io::Result<()> {
+    let (batch, expected) = (corpus::batch(&entries), lines(&entries));
     fs::create_dir_all(folder)?;
     fs::write(folder.join("batch.bin"), &batch)?;
     fs::write(folder.join("expected.txt"), &expected)?;
     fs::write(folder.join("index.txt"), corpus::index(&entries))?;
     println!(
-        "{} files, {} bytes of batch, {} lines in {} bytes expected",
+        "{} {kind}, {} bytes of batch, {} lines in {} bytes expected",
         entries.len(),
         batch.len(),
         expected.lines().count(),

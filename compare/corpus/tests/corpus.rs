@@ -51,7 +51,7 @@ fn every_mutant_prints_something_else() {
     let entries = corpus::entries();
     let told = |mutant| {
         entries.iter().any(|entry| {
-            let labels = File::parse(&entry.file).map_or(0, |file| file.labels().len());
+            let labels = File::parse(&entry.file).map_or(0, |file| file.parts.labels().len());
             (0..labels).any(|reader| {
                 view(&Wrong::new(mutant), &entry.file, reader) != view(&Paper, &entry.file, reader)
             })

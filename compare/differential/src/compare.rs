@@ -1,10 +1,13 @@
 //! Comparing: implementations on one file, and one implementation on two files
 //! that are alike.
 
-use crate::trial::{Trial, IMPLEMENTATIONS, LONG_BUFFER};
+use crate::trial::{Kind, Trial, IMPLEMENTATIONS};
 use generator::alike::Pair;
 use generator::random::Random;
+use reference::day::Day;
 use reference::file::File;
+use reference::limits::{shown, view};
+use reference::rules::Paper;
 
 /// Differences beyond these are counted and not described.
 const DESCRIBED: u64 = 5;
@@ -12,8 +15,10 @@ const DESCRIBED: u64 = 5;
 #[derive(Default)]
 pub struct Comparison {
     pub files: u64,
-    pub reads: u64,
     pub pairs: u64,
+    pub days: u64,
+    pub day_pairs: u64,
+    pub reads: u64,
     pub differences: u64,
 }
 
@@ -22,22 +27,46 @@ impl Comparison {
     /// buffers that are long, just long enough, and too short.
     pub fn file(&mut self, name: &str, file: &[u8], random: &mut Random) {
         self.files += 1;
-        let labels = File::parse_parts(file).map_or(0, |file| file.labels().len());
-        let no_labels = [labels, labels + 1, labels + 256, usize::MAX];
-        for reader in (0..labels).chain(no_labels) {
-            let Ok(length) = self.one_read(name, file, reader, LONG_BUFFER) else { continue };
+        let labels = File::parse_parts(file).map_or(0, |file| file.parts.labels().len());
+        for reader in readers(labels) {
+            let long = Kind::Plain.long_buffer();
+            let Ok(length) = self.one_read(Kind::Plain, name, file, reader, long) else { continue };
             for buffer in [length, length - 1, random.below(length)] {
-                _ = self.one_read(name, file, reader, buffer);
+                _ = self.one_read(Kind::Plain, name, file, reader, buffer);
+            }
+        }
+    }
+
+    /// The same for a day; buffers also around the most that its jobs may need.
+    pub fn day(&mut self, name: &str, file: &[u8], random: &mut Random) {
+        self.days += 1;
+        let labels = Day::parse_parts(file).map_or(0, |day| day.parts.labels().len());
+        let most = most_needed(file);
+        let longest_for = random.below(labels + 1);
+        for reader in readers(labels) {
+            // The longest buffer takes its time, and one reader is enough for it.
+            let first = if reader == longest_for { Kind::Day.long_buffer() } else { most + 32 };
+            let Ok(length) = self.one_read(Kind::Day, name, file, reader, first) else { continue };
+            let between = random.within(length, most.max(length));
+            for buffer in [most, most - 1, between, length, length - 1, random.below(length)] {
+                _ = self.one_read(Kind::Day, name, file, reader, buffer);
             }
         }
     }
 
     /// One read by every implementation; gives the reference's answer.
-    fn one_read(&mut self, name: &str, file: &[u8], reader: usize, buffer: usize) -> Result<usize, u8> {
+    fn one_read(
+        &mut self,
+        kind: Kind,
+        name: &str,
+        file: &[u8],
+        reader: usize,
+        buffer: usize,
+    ) -> Result<usize, u8> {
         let mut first = None;
         for &implementation in IMPLEMENTATIONS {
             self.reads += 1;
-            let trial = Trial::new(implementation, file, reader, buffer);
+            let trial = Trial::new(kind, implementation, file, reader, buffer);
             if let Some(offence) = trial.offence() {
                 let what = format!("{} {offence}", implementation.name);
                 self.differ(name, &what, &[file], reader, buffer);
@@ -60,15 +89,33 @@ impl Comparison {
     /// Demand 3: two alike files give one view.
     pub fn pair(&mut self, name: &str, pair: &Pair) {
         self.pairs += 1;
+        _ = self.alike(Kind::Plain, name, pair, Kind::Plain.long_buffer());
+    }
+
+    /// Demand 3 over a whole day, also with a buffer that is too short by a byte.
+    pub fn day_pair(&mut self, name: &str, pair: &Pair) {
+        self.day_pairs += 1;
+        let length = self.alike(Kind::Day, name, pair, most_needed(&pair.file) + 32);
+        if let Ok(length) = length {
+            _ = self.alike(Kind::Day, name, pair, length);
+            _ = self.alike(Kind::Day, name, pair, length - 1);
+        }
+    }
+
+    /// Gives the reference's answer for the first of the two.
+    fn alike(&mut self, kind: Kind, name: &str, pair: &Pair, buffer: usize) -> Result<usize, u8> {
+        let mut answer = None;
         for &implementation in IMPLEMENTATIONS {
             self.reads += 2;
             let [one, other] = [&pair.file, &pair.other]
-                .map(|file| Trial::new(implementation, file, pair.reader, LONG_BUFFER));
+                .map(|file| Trial::new(kind, implementation, file, pair.reader, buffer));
             if one != other {
                 let what = format!("{} tells alike files apart", implementation.name);
-                self.differ(name, &what, &[&pair.file, &pair.other], pair.reader, LONG_BUFFER);
+                self.differ(name, &what, &[&pair.file, &pair.other], pair.reader, buffer);
             }
+            answer.get_or_insert(one.answer);
         }
+        answer.unwrap_or(Err(0))
     }
 
     fn differ(&mut self, name: &str, what: &str, files: &[&[u8]], reader: usize, buffer: usize) {
@@ -82,4 +129,16 @@ impl Comparison {
             eprintln!("  {hex}");
         }
     }
+}
+
+/// All labels, and some indices that are none.
+fn readers(labels: usize) -> impl Iterator<Item = usize> {
+    (0..labels).chain([labels, labels + 1, labels + 256, usize::MAX])
+}
+
+/// The most bytes that the views of a day may take: a record in every place of
+/// every job, all shown. For a day that is refused, the shortest view.
+fn most_needed(file: &[u8]) -> usize {
+    let Ok(day) = Day::parse(file) else { return view::RECORDS };
+    day.jobs(&Paper).map(|job| view::RECORDS + shown::LENGTH * usize::from(job.places)).sum()
 }

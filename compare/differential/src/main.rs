@@ -1,26 +1,30 @@
-//! Runs the implementations on hand-worked and generated files and on alike
-//! pairs, and says how often they differ.
+//! Runs the implementations on hand-worked and generated files and days and on
+//! alike pairs of them, and says how often they differ.
 
 mod compare;
 mod trial;
 
 use compare::Comparison;
 use generator::alike::{self, Pair};
-use generator::exhaust;
 use generator::random::Random;
-use mutants::by_hand;
+use generator::{day_alike, days, exhaust};
+use mutants::{by_hand, day_by_hand};
 use reference::limits::header;
 use std::process::ExitCode;
 use trial::IMPLEMENTATIONS;
 
-const USAGE: &str = "usage: differential [--files N] [--pairs N] [--seed N]";
+const USAGE: &str = "usage: differential [--files N] [--pairs N] [--days N] [--day-pairs N] [--seed N]";
 
 /// Every so many files, one is also run with each smaller allotment.
 const EXHAUSTED: u64 = 500;
+/// Every so many days, one is also run with each limit of its steps that matters.
+const LIMITED: u64 = 50;
 
 struct Bounds {
     files: u64,
     pairs: u64,
+    days: u64,
+    day_pairs: u64,
     seed: u64,
 }
 
@@ -33,10 +37,13 @@ fn main() -> ExitCode {
     by_hand_files(&mut comparison);
     generated_files(&mut comparison, &bounds);
     generated_pairs(&mut comparison, &bounds);
+    by_hand_days(&mut comparison);
+    generated_days(&mut comparison, &bounds);
     let names: Vec<&str> = IMPLEMENTATIONS.iter().map(|implementation| implementation.name).collect();
-    let Comparison { files, reads, pairs, differences } = comparison;
+    let Comparison { files, pairs, days, day_pairs, reads, differences } = comparison;
     println!(
-        "{}: {files} files, {pairs} alike pairs, {reads} reads, {differences} differences",
+        "{}: {files} files, {pairs} alike pairs, {days} days, {day_pairs} alike pairs of days, \
+         {reads} reads, {differences} differences",
         names.join(" and ")
     );
     if differences == 0 {
@@ -47,12 +54,14 @@ fn main() -> ExitCode {
 }
 
 fn bounds(mut arguments: impl Iterator<Item = String>) -> Option<Bounds> {
-    let mut bounds = Bounds { files: 20_000, pairs: 5_000, seed: 0 };
+    let mut bounds = Bounds { files: 20_000, pairs: 5_000, days: 20_000, day_pairs: 5_000, seed: 0 };
     while let Some(name) = arguments.next() {
         let number = arguments.next()?.parse().ok()?;
         match name.as_str() {
             "--files" => bounds.files = number,
             "--pairs" => bounds.pairs = number,
+            "--days" => bounds.days = number,
+            "--day-pairs" => bounds.day_pairs = number,
             "--seed" => bounds.seed = number,
             _ => return None,
         }
@@ -99,5 +108,34 @@ fn generated_pairs(comparison: &mut Comparison, bounds: &Bounds) {
                 comparison.pair(&format!("{name}, exhausted"), &Pair { file, other, reader: pair.reader });
             }
         }
+    }
+}
+
+fn by_hand_days(comparison: &mut Comparison) {
+    let mut random = Random::new(0);
+    for case in cases::days::all() {
+        comparison.day(&case.name, &case.file, &mut random);
+    }
+    for (mutants, pair) in day_by_hand::pairs() {
+        let name = format!("by hand for {mutants:?}");
+        comparison.day(&name, &pair.file, &mut random);
+        comparison.day_pair(&name, &pair);
+    }
+}
+
+fn generated_days(comparison: &mut Comparison, bounds: &Bounds) {
+    for seed in bounds.seed..bounds.seed + bounds.days {
+        let name = format!("day of seed {seed}");
+        let mut random = Random::new(!seed);
+        let file = days::any(seed);
+        comparison.day(&name, &file, &mut random);
+        if seed % LIMITED == 0 {
+            for variant in days::limits(&file) {
+                comparison.day(&format!("{name}, limited"), &variant, &mut random);
+            }
+        }
+    }
+    for seed in bounds.seed..bounds.seed + bounds.day_pairs {
+        comparison.day_pair(&format!("pair of days of seed {seed}"), &day_alike::pair(seed));
     }
 }

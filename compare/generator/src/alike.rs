@@ -4,19 +4,24 @@ use crate::random::Random;
 use crate::{invalid, parts};
 use reference::file::File;
 use reference::limits::{header, input};
+use reference::parts::{short, Parts};
 
 /// Where the numbers start that are hidden from the label with index `reader`.
 /// Where refusal 1 to 4, 6 or 8 applies, no number is hidden.
 pub fn hidden_numbers(bytes: &[u8], reader: usize) -> Vec<usize> {
     let Ok(file) = File::parse_parts(bytes) else { return Vec::new() };
-    if file.check_records().is_err() {
+    hidden_in(&file.parts, short(bytes, header::RECORDS_AT).into(), reader)
+}
+
+/// [`hidden_numbers`] of the records at `records_at`, in a file of either kind.
+pub fn hidden_in(parts: &Parts, records_at: usize, reader: usize) -> Vec<usize> {
+    if parts.check_records().is_err() {
         return Vec::new();
     }
-    let Some(&reader) = file.labels().get(reader) else { return Vec::new() };
-    let at = [bytes[header::RECORDS_AT], bytes[header::RECORDS_AT + 1]];
-    let first = u16::from_le_bytes(at) as usize + input::NUMBER;
+    let Some(&reader) = parts.labels().get(reader) else { return Vec::new() };
+    let first = records_at + input::NUMBER;
     (0..)
-        .zip(file.records())
+        .zip(parts.records())
         .filter(|(_, record)| !record.label.flows_to(reader))
         .map(|(index, _): (usize, _)| first + input::LENGTH * index)
         .collect()
@@ -24,7 +29,12 @@ pub fn hidden_numbers(bytes: &[u8], reader: usize) -> Vec<usize> {
 
 /// Another file that is alike for `reader`, or `None` if nothing is hidden.
 pub fn other(random: &mut Random, file: &[u8], reader: usize) -> Option<Vec<u8>> {
-    let hidden = hidden_numbers(file, reader);
+    change_some(random, file, &hidden_numbers(file, reader))
+}
+
+/// The file with some of the numbers at `hidden` changed, or `None` if there are
+/// none.
+pub fn change_some(random: &mut Random, file: &[u8], hidden: &[usize]) -> Option<Vec<u8>> {
     if hidden.is_empty() {
         return None;
     }
@@ -38,13 +48,13 @@ pub fn other(random: &mut Random, file: &[u8], reader: usize) -> Option<Vec<u8>>
             number.copy_from_slice(&new.to_le_bytes());
         }
     };
-    for &at in &hidden {
+    for &at in hidden {
         if random.chance(50) {
             change(random, &mut other, at);
         }
     }
     if other == file {
-        let at = random.pick(&hidden);
+        let at = random.pick(hidden);
         other[at] ^= 1;
     }
     Some(other)

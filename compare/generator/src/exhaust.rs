@@ -18,7 +18,7 @@ pub fn variants(file: &[u8]) -> Vec<Vec<u8>> {
         variant[at..at + 2].copy_from_slice(&number.to_le_bytes());
         variant
     };
-    let first = parsed.record_count() as u16;
+    let first = parsed.parts.record_count() as u16;
     let steps = (1..=finished.steps_used.min(MOST)).map(|steps| with(header::STEPS, steps));
     let places = (first..=finished.next_place.min(first + MOST)).map(|places| with(header::PLACES, places));
     steps.chain(places).collect()

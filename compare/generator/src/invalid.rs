@@ -3,7 +3,7 @@
 use crate::random::Random;
 use reference::limits::header;
 use reference::opcode::*;
-use reference::script::{Clauses, Script};
+use reference::script::{Clauses, Input, Script};
 
 /// A file that is refused with `refusal`, 1 to 7.
 pub fn file(random: &mut Random, refusal: u8) -> Vec<u8> {
@@ -20,7 +20,8 @@ pub fn file(random: &mut Random, refusal: u8) -> Vec<u8> {
         }
         6 => wrong_record(random, script),
         _ => {
-            break_code(random, &mut script);
+            let (labels, records) = (script.labels.len() as u8, script.records.len() as u8);
+            break_code(random, &mut script.code, labels, records);
             script.bytes()
         }
     }
@@ -32,11 +33,11 @@ fn wrong_size(random: &mut Random, mut file: Vec<u8>) -> Vec<u8> {
     file
 }
 
-fn patch(file: &mut [u8], at: usize, number: usize) {
+pub fn patch(file: &mut [u8], at: usize, number: usize) {
     file[at..at + 2].copy_from_slice(&(number as u16).to_le_bytes());
 }
 
-fn field(file: &[u8], at: usize) -> usize {
+pub fn field(file: &[u8], at: usize) -> usize {
     u16::from_le_bytes([file[at], file[at + 1]]).into()
 }
 
@@ -72,52 +73,66 @@ fn wrong_layout(random: &mut Random, mut file: Vec<u8>) -> Vec<u8> {
 }
 
 fn wrong_labels(random: &mut Random, mut script: Script) -> Vec<u8> {
-    let at = random.below(script.labels.len());
+    if break_label(random, &mut script.labels) {
+        return script.bytes();
+    }
+    let mut file = script.bytes();
+    break_count(random, &mut file, header::LENGTH);
+    file
+}
+
+/// Makes one of the labels malformed, or tells that a count is to be broken.
+pub fn break_label(random: &mut Random, labels: &mut [Clauses]) -> bool {
+    let at = random.below(labels.len());
     let masks = match random.below(6) {
         0 => vec![1, 3],
         1 => vec![2, 1],
         2 => vec![random.within(64, 255) as u8],
         3 => vec![0, 5],
         4 => vec![4, 4],
-        _ => {
-            // A count of clauses that the entries do not bear out.
-            let mut file = script.bytes();
-            file[header::LENGTH + random.below(2)] = random.within(21, 255) as u8;
-            return file;
-        }
+        _ => return false,
     };
     if random.chance(50) {
-        script.labels[at].secrecy = masks;
+        labels[at].secrecy = masks;
     } else {
-        script.labels[at].integrity = masks;
+        labels[at].integrity = masks;
     }
-    script.bytes()
+    true
+}
+
+/// A count of clauses, of the label at `at`, that the entries do not bear out.
+pub fn break_count(random: &mut Random, file: &mut [u8], at: usize) {
+    file[at + random.below(2)] = random.within(21, 255) as u8;
 }
 
 fn wrong_record(random: &mut Random, mut script: Script) -> Vec<u8> {
     if script.records.is_empty() {
-        script.records.push(reference::script::Input::sealed(0, 1));
+        script.records.push(Input::sealed(0, 1));
         script.places = script.places.max(1);
     }
-    let at = random.below(script.records.len());
-    if random.chance(50) {
-        script.records[at].kind = random.within(2, 255) as u8;
-    } else {
-        script.records[at].label = random.within(script.labels.len(), 255) as u8;
-    }
+    break_record(random, &mut script.records, script.labels.len());
     script.bytes()
+}
+
+/// Gives one of the records a kind or label that there is not.
+pub fn break_record(random: &mut Random, records: &mut [Input], labels: usize) {
+    let at = random.below(records.len());
+    if random.chance(50) {
+        records[at].kind = random.within(2, 255) as u8;
+    } else {
+        records[at].label = random.within(labels, 255) as u8;
+    }
 }
 
 /// Refusal 7 is for the code: appends something that check 7 knows to be wrong,
 /// reached or not.
-fn break_code(random: &mut Random, script: &mut Script) {
-    let code = &mut script.code;
+pub fn break_code(random: &mut Random, code: &mut Vec<u8>, labels: u8, records: u8) {
     let end = code.len() as u16;
     let target = |to: u16| to.to_le_bytes();
     match random.below(9) {
         0 => code.extend([random.within(OPCODES, 255) as u8, END]),
-        1 => code.extend([LAB, script.labels.len() as u8, END]),
-        2 => code.extend([INPUT, script.records.len() as u8, END]),
+        1 => code.extend([LAB, labels, END]),
+        2 => code.extend([INPUT, records, END]),
         3 => code.extend([random.pick(&[GET, SET]), random.within(16, 255) as u8, END]),
         4 => {
             // Into its own operand, or behind the end.

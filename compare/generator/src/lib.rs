@@ -7,6 +7,11 @@
 
 pub mod alike;
 pub mod coverage;
+pub mod day_alike;
+pub mod day_coverage;
+pub mod day_invalid;
+mod day_statements;
+pub mod days;
 pub mod exhaust;
 pub mod invalid;
 pub mod parts;

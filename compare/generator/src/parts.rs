@@ -28,7 +28,7 @@ pub fn labels(random: &mut Random) -> Vec<Clauses> {
     labels
 }
 
-fn flows(from: &Clauses, to: &Clauses) -> bool {
+pub fn flows(from: &Clauses, to: &Clauses) -> bool {
     let table = |masks: &[u8]| formula(masks).expect("generated lists are well formed");
     let label = |clauses: &Clauses| reference::label::Label {
         secrecy: table(&clauses.secrecy),

@@ -13,8 +13,8 @@ pub const LABELS: [u8; 3] = [6, 7, 8];
 pub const SEALED: [u8; 4] = [9, 10, 11, 12];
 pub const REFERENCES: [u8; 3] = [13, 14, 15];
 
-/// No statement starts past this; the longest one and all closings fit behind.
-const LAST_START: usize = MAX_CODE - 1500;
+/// What is kept free for the longest statement and all closings.
+const CLOSINGS: usize = 1500;
 
 pub struct Writer<'a> {
     pub random: &'a mut Random,
@@ -25,6 +25,8 @@ pub struct Writer<'a> {
     bodies: Vec<Body>,
     /// Statements that may still be written, over all runs.
     statements: usize,
+    /// No statement starts past this.
+    last_start: usize,
 }
 
 /// The run that is being written.
@@ -53,8 +55,7 @@ pub enum Manner {
 
 pub fn code(random: &mut Random, labels: &[Clauses], records: &[Input], steps: u16) -> Vec<u8> {
     let statements = random.within(8, 50);
-    let mut writer =
-        Writer { random, code: Code::new(), labels: labels.len(), records, bodies: Vec::new(), statements };
+    let mut writer = Writer::new(random, labels, records, statements, MAX_CODE - CLOSINGS);
     writer.fill_locals();
     let scope = Scope { steps, depth: 0 };
     let before = writer.random.below(4);
@@ -67,15 +68,31 @@ pub fn code(random: &mut Random, labels: &[Clauses], records: &[Input], steps: u
     let after = writer.random.within(1, 6);
     writer.statements(scope, after);
     writer.finish(scope);
-    while let Some(body) = writer.bodies.pop() {
-        writer.body(body);
-    }
+    writer.bodies();
     writer.code.bytes()
 }
 
-impl Writer<'_> {
+impl<'a> Writer<'a> {
+    pub fn new(
+        random: &'a mut Random,
+        labels: &[Clauses],
+        records: &'a [Input],
+        statements: usize,
+        last_start: usize,
+    ) -> Writer<'a> {
+        let labels = labels.len();
+        Writer { random, code: Code::new(), labels, records, bodies: Vec::new(), statements, last_start }
+    }
+
+    /// Writes the bodies that are called for, and those that they call for.
+    pub fn bodies(&mut self) {
+        while let Some(body) = self.bodies.pop() {
+            self.body(body);
+        }
+    }
+
     /// Puts a value of the right kind into some of the locals.
-    fn fill_locals(&mut self) {
+    pub fn fill_locals(&mut self) {
         for local in NUMBERS {
             if self.random.chance(30) {
                 let number = parts::number(self.random);
@@ -115,7 +132,7 @@ impl Writer<'_> {
         }
     }
 
-    fn start(&mut self, scope: Scope, manner: Manner) {
+    pub fn start(&mut self, scope: Scope, manner: Manner) {
         match manner {
             Manner::Plain => (),
             Manner::Curious => self.open_and_branch(scope),
@@ -125,7 +142,7 @@ impl Writer<'_> {
 
     pub fn statements(&mut self, scope: Scope, length: usize) {
         for _ in 0..length {
-            if self.statements == 0 || self.code.len() > LAST_START {
+            if self.statements == 0 || self.code.len() > self.last_start {
                 return;
             }
             self.statements -= 1;
@@ -158,7 +175,7 @@ impl Writer<'_> {
     }
 
     /// The end of a run: a result of any kind, or a throw.
-    fn finish(&mut self, scope: Scope) {
+    pub fn finish(&mut self, scope: Scope) {
         let local = self.random.below(16) as u8;
         match self.random.below(10) {
             0 if scope.depth > 0 => self.code.get(0).op(THROW),

@@ -1,13 +1,22 @@
 //! Mutants of the reference: the paper's rules but for one, each to be found
 //! out by generated pairs of alike files, or by a pair written by hand; and
-//! wrong loaders, to be found out by the load cases.
+//! wrong loaders, to be found out by the load cases. The same for days, whose
+//! mutants and wrong loaders the hand-worked days find out too.
 
 pub mod by_hand;
+pub mod day_by_hand;
+pub mod day_list;
+pub mod day_loader;
+pub mod day_search;
+pub mod day_wrong;
 pub mod list;
 pub mod loader;
 pub mod search;
 pub mod wrong;
+pub mod wrong_day_loaders;
 pub mod wrong_loaders;
 
 /// How many generated pairs are tried.
 pub const MOST_PAIRS: u64 = 20_000;
+/// How many generated pairs of days are tried.
+pub const MOST_DAY_PAIRS: u64 = 20_000;

@@ -10,32 +10,35 @@ pub enum Harm {
 }
 
 macro_rules! mutants {
-    ($($name:ident $harm:ident $says:literal,)*) => {
+    ($of:ident $all:ident; $($name:ident $harm:ident $says:literal,)*) => {
         #[derive(Clone, Copy, Debug, PartialEq, Eq)]
-        pub enum Mutant {
+        pub enum $of {
             $($name,)*
         }
 
-        pub const MUTANTS: &[Mutant] = &[$(Mutant::$name,)*];
+        pub const $all: &[$of] = &[$($of::$name,)*];
 
-        impl Mutant {
+        impl $of {
             pub fn harm(self) -> Harm {
                 match self {
-                    $(Mutant::$name => Harm::$harm,)*
+                    $($of::$name => Harm::$harm,)*
                 }
             }
 
             /// What the mutant does instead of the paper's rule.
             pub fn says(self) -> &'static str {
                 match self {
-                    $(Mutant::$name => $says,)*
+                    $($of::$name => $says,)*
                 }
             }
         }
     };
 }
+pub(crate) use mutants;
 
 mutants! {
+    Mutant MUTANTS;
+
     // The paper's wrong turns.
     StepsByUse Leak "a block is charged the steps that it used",
     PlacesByUse Leak "a block is charged the places that it used",

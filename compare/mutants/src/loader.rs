@@ -82,15 +82,15 @@ pub const PAPER: Loader = Loader {
 };
 
 /// The header's numbers; those past the file's end are 0.
-struct Header {
-    labels: usize,
-    labels_at: usize,
-    records: usize,
-    records_at: usize,
-    code: usize,
-    code_at: usize,
-    steps: usize,
-    places: usize,
+pub struct Header {
+    pub labels: usize,
+    pub labels_at: usize,
+    pub records: usize,
+    pub records_at: usize,
+    pub code: usize,
+    pub code_at: usize,
+    pub steps: usize,
+    pub places: usize,
 }
 
 impl Header {
@@ -122,7 +122,7 @@ impl Loader {
             1 => self.length.contains(&file.len()),
             2 => self.counts_hold(header),
             3 => self.layout_holds(file, header),
-            4 => self.labels_hold(file, header),
+            4 => self.labels_hold(file, header, header::LENGTH),
             5 => self.start_holds(file),
             6 => self.records_hold(file, header),
             _ => self.code_holds(part(file, header.code_at, header.code), header),
@@ -130,7 +130,7 @@ impl Loader {
         !holds
     }
 
-    fn counts_hold(&self, header: &Header) -> bool {
+    pub fn counts_hold(&self, header: &Header) -> bool {
         self.labels.contains(&header.labels)
             && self.records.contains(&header.records)
             && self.code.contains(&header.code)
@@ -145,8 +145,9 @@ impl Loader {
             && (self.file_end)(file.len(), header.code_at + header.code)
     }
 
-    fn labels_hold(&self, file: &[u8], header: &Header) -> bool {
-        let mut at = header::LENGTH;
+    /// Check 4 for labels that start at `first`.
+    pub fn labels_hold(&self, file: &[u8], header: &Header, first: usize) -> bool {
+        let mut at = first;
         for index in 0..header.labels {
             let Some((secrecy, integrity)) = entry(file, at) else { return false };
             let holds = (self.secrecy)(secrecy) && (self.integrity)(integrity);
@@ -167,7 +168,7 @@ impl Loader {
         (self.start)(start, Label { secrecy: table(secrecy), integrity: table(integrity) })
     }
 
-    fn records_hold(&self, file: &[u8], header: &Header) -> bool {
+    pub fn records_hold(&self, file: &[u8], header: &Header) -> bool {
         let bytes = part(file, header.records_at, input::LENGTH * header.records);
         bytes.chunks_exact(input::LENGTH).enumerate().all(|(index, record)| {
             let holds = (self.kind)(record[input::KIND])
@@ -176,7 +177,7 @@ impl Loader {
         })
     }
 
-    fn code_holds(&self, code: &[u8], header: &Header) -> bool {
+    pub fn code_holds(&self, code: &[u8], header: &Header) -> bool {
         let Some(starts) = self.sweep(code, header) else { return false };
         let targets_hold = starts.iter().filter(|&&at| (self.has_target)(code[at])).all(|&at| {
             let byte = |at: usize| usize::from(code.get(at).copied().unwrap_or(0));
@@ -218,20 +219,20 @@ impl Loader {
 }
 
 /// So many bytes of the file, or those of them that there are.
-fn part(file: &[u8], at: usize, length: usize) -> &[u8] {
+pub fn part(file: &[u8], at: usize, length: usize) -> &[u8] {
     let end = (at + length).min(file.len());
     file.get(at..end).unwrap_or(&[])
 }
 
 /// The masks of the entry at `at`, unless the file cuts it.
-fn entry(file: &[u8], at: usize) -> Option<(&[u8], &[u8])> {
+pub fn entry(file: &[u8], at: usize) -> Option<(&[u8], &[u8])> {
     let (&[secrecy, integrity], rest) = file.get(at..)?.split_first_chunk()?;
     let (secrecy, rest) = rest.split_at_checked(secrecy.into())?;
     Some((secrecy, rest.get(..integrity.into())?))
 }
 
 /// The table of any masks, well formed or not.
-fn table(masks: &[u8]) -> u64 {
+pub fn table(masks: &[u8]) -> u64 {
     let holds = |set: u8| masks.iter().all(|mask| mask & set != 0);
     (0..64).filter(|&set| holds(set)).fold(0, |table, set| table | 1 << set)
 }

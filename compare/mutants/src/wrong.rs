@@ -124,10 +124,10 @@ impl Rules for Wrong {
         }
     }
 
-    fn unopened(&self, content: Content) -> Fault {
+    fn unopened(&self, opcode: u8, content: Content) -> Fault {
         match content {
             Content::Fault(fault) if self.is(Mutant::UnopenedFaultTells) => fault,
-            _ => Paper.unopened(content),
+            _ => Paper.unopened(opcode, content),
         }
     }
 

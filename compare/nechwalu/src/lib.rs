@@ -8,6 +8,9 @@
 //! numbers of input records that its label may not see. That is proved of the
 //! library behind this crate, not only tested.
 //!
+//! A *day* is a file of up to 16 scripts, its jobs, that work on one set of records
+//! in turn. [`read_day`] runs them and writes a view for each.
+//!
 //! The library is a static one, `libmonitor.a`. Build with the feature `proved`
 //! and with `NECHWALU_LIB` set to the absolute path of its directory.
 
@@ -19,8 +22,19 @@ const SHORTEST_VIEW: usize = 62;
 /// A buffer of this length is long enough for every view.
 pub const LONGEST_VIEW: usize = SHORTEST_VIEW + 36 * 256;
 
+/// A buffer of this length is long enough for the views of every day.
+pub const LONGEST_DAY: usize = 16 * LONGEST_VIEW;
+
 extern "C" {
     fn nechwalu_read(
+        file: *const u8,
+        file_len: usize,
+        reader: usize,
+        buffer: *mut u8,
+        buffer_len: usize,
+    ) -> usize;
+
+    fn nechwalu_read_day(
         file: *const u8,
         file_len: usize,
         reader: usize,
@@ -76,6 +90,69 @@ pub fn read(file: &[u8], reader: usize, buffer: &mut [u8]) -> Result<usize, u8> 
     // keeps neither.
     let answer =
         unsafe { nechwalu_read(file.as_ptr(), file.len(), reader, buffer.as_mut_ptr(), buffer.len()) };
+    length_or_refusal(answer)
+}
+
+/// Runs the jobs of the day in `file`, one behind the other, and writes what the
+/// label with index `reader` (counted from 0 in the file's list of labels) may see
+/// into `buffer`: a view for each job, end to end.
+///
+/// Gives the length of all views together; they are `buffer[..length]` and the rest
+/// of the buffer is as before. Each view holds its own length in its bytes 10 and
+/// 11, so that the next one can be found. [`LONGEST_DAY`] bytes are always enough.
+///
+/// A job that declares more steps than the day has left is skipped: its view is 62
+/// bytes, with ending 4 and the two length fields, and the rest is 0.
+///
+/// # Errors
+///
+/// The number of the first reason to refuse, in this order, and then the buffer is
+/// as before:
+///
+/// - 1: the file is shorter than 20 bytes or longer than 65,535,
+/// - 2: a count of labels, records or code bytes is outside its limits,
+/// - 3: the offsets in its header do not fit together, or not its length,
+/// - 4: a label is malformed,
+/// - 10: there are no jobs or more than 16, or a job is malformed, or its starting
+///   label does not flow to its clearance,
+/// - 6: an input record is malformed,
+/// - 7: the code of a job is malformed,
+/// - 8: `reader` is not the index of a label,
+/// - 9: the buffer is shorter than all views together.
+///
+/// # Example
+///
+/// ```
+/// // Two labels, no records, two jobs, 6 bytes of code; 10 steps for the day.
+/// let mut file = Vec::new();
+/// for number in [2u16, 20, 0, 25, 2, 25, 6, 49, 10, 0] {
+///     file.extend(number.to_le_bytes());
+/// }
+/// file.extend([0, 0]); // label 0: public
+/// file.extend([1, 0, 0]); // label 1: everything secret
+/// for caller in [0, 1] {
+///     file.extend([caller, 0, 1, 0]); // starts public, with label 1 as clearance
+///     for number in [6u16, 0, 0, 6] {
+///         file.extend(number.to_le_bytes()); // 6 steps, no places, all of the code
+///     }
+/// }
+/// file.extend([0x01, 5, 0, 0, 0, 0x00]); // PUSH 5, END
+///
+/// let mut buffer = vec![0; nechwalu::LONGEST_DAY];
+/// let length = nechwalu::read_day(&file, 0, &mut buffer).expect("a valid day");
+/// assert_eq!(length, 62 + 62);
+/// let (first, second) = buffer[..length].split_at(62);
+/// assert_eq!((first[0], first[14]), (1, 5)); // ended with a result, 5
+/// assert_eq!(second[0], 4); // skipped: 4 steps were left
+/// ```
+pub fn read_day(file: &[u8], reader: usize, buffer: &mut [u8]) -> Result<usize, u8> {
+    // SAFETY: as for `read`, of which this call has the form.
+    let answer =
+        unsafe { nechwalu_read_day(file.as_ptr(), file.len(), reader, buffer.as_mut_ptr(), buffer.len()) };
+    length_or_refusal(answer)
+}
+
+fn length_or_refusal(answer: usize) -> Result<usize, u8> {
     if answer < SHORTEST_VIEW {
         Err(answer as u8)
     } else {

@@ -26,3 +26,8 @@ pub fn split(mut batch: &[u8]) -> Option<Vec<&[u8]>> {
 pub fn lines(file: &[u8]) -> String {
     print::lines(file) + ".\n"
 }
+
+/// What is printed for a day of a batch of days.
+pub fn day_lines(file: &[u8]) -> String {
+    print::day_lines(file) + ".\n"
+}

@@ -36,7 +36,38 @@ pub mod header {
     pub const LENGTH: usize = 16;
 }
 
-/// The longest file that is looked at.
+/// Byte offsets of a day's header: 16-bit numbers, and the steps in 32 bits.
+pub mod day_header {
+    pub const LABEL_COUNT: usize = 0;
+    pub const LABELS_AT: usize = 2;
+    pub const RECORD_COUNT: usize = 4;
+    pub const RECORDS_AT: usize = 6;
+    pub const JOB_COUNT: usize = 8;
+    pub const JOBS_AT: usize = 10;
+    pub const CODE_LENGTH: usize = 12;
+    pub const CODE_AT: usize = 14;
+    pub const STEPS: usize = 16;
+    pub const LENGTH: usize = 20;
+}
+
+pub const MAX_JOBS: usize = 16;
+pub const JOBS: RangeInclusive<usize> = 1..=MAX_JOBS;
+pub const HIGHEST_CALLER: u8 = 15;
+
+/// Byte offsets within one job of a day.
+pub mod job {
+    pub const CALLER: usize = 0;
+    pub const LABEL: usize = 1;
+    pub const CLEARANCE: usize = 2;
+    pub const ZERO: usize = 3;
+    pub const STEPS: usize = 4;
+    pub const PLACES: usize = 6;
+    pub const CODE_AT: usize = 8;
+    pub const CODE_LENGTH: usize = 10;
+    pub const LENGTH: usize = 12;
+}
+
+/// The longest file that is looked at, plain or a day.
 pub const MAX_FILE: usize = 65_535;
 
 /// Byte offsets within one input record.
@@ -72,3 +103,5 @@ pub mod shown {
 
 /// The longest view: every place holds a record and every record is shown.
 pub const MAX_VIEW: usize = view::RECORDS + shown::LENGTH * MAX_PLACES;
+/// The most bytes that the views of a day take.
+pub const MAX_DAY: usize = MAX_JOBS * MAX_VIEW;

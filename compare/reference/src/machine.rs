@@ -3,6 +3,7 @@
 use crate::file::File;
 use crate::label::Label;
 use crate::opcode::*;
+use crate::parts::{Job, Parts};
 use crate::rules::{Raiser, Rules};
 use crate::run::{Frame, Run};
 use crate::store::Store;
@@ -21,14 +22,20 @@ pub struct Finished {
 
 /// Runs the script of a file that stood up to checks 1 to 7.
 pub fn run<R: Rules>(file: &File, rules: &R) -> Finished {
-    let mut machine = Machine { code: file.code, labels: file.labels(), store: Store::new(file), rules };
-    let mut run = Run::outermost(file);
+    let File { parts, job } = file;
+    run_job(parts, job, Run::outermost(job, parts.record_count()), Store::new(parts), rules)
+}
+
+/// Runs a job from `run`, its start, on `store`.
+pub fn run_job<R: Rules>(parts: &Parts, job: &Job, mut run: Run, mut store: Store, rules: &R) -> Finished {
+    store.reserve(job.places.into());
+    let mut machine = Machine { code: job.code, labels: parts.labels(), store, rules };
     let ending = machine.run(&mut run);
     Finished {
         ending,
         label: run.label,
         clearance: run.clearance,
-        steps_used: file.steps - run.steps_left,
+        steps_used: job.steps - run.steps_left,
         next_place: run.places.next as u16,
         store: machine.store,
     }
@@ -73,8 +80,9 @@ impl<R: Rules> Machine<'_, R> {
     }
 
     /// One instruction. Until it is sure not to fault it changes nothing, save
-    /// the raise of an OPEN that throws a sealed fault, and where the run is in
-    /// the code: after a fault that is the handler's start, or does not matter.
+    /// the raise of an OPEN or READ that throws the fault it found, and where the
+    /// run is in the code: after a fault that is the handler's start, or does
+    /// not matter.
     #[inline]
     fn obey(&mut self, run: &mut Run, opcode: u8) -> Result<Next, Fault> {
         let shape = &SHAPES[opcode as usize];
@@ -98,8 +106,8 @@ impl<R: Rules> Machine<'_, R> {
             FLOWS..=MEET => self.compare_labels(run, opcode)?,
             SEAL => self.make(run, opcode, Kind::Sealed)?,
             NEW => self.make(run, opcode, Kind::Reference)?,
-            OPEN => self.open(run)?,
-            READ => self.read(run)?,
+            OPEN => self.open(run, opcode, run.stack.sealed()?)?,
+            READ => self.open(run, opcode, run.stack.reference()?)?,
             WRITE => self.write(run)?,
             LABOF => self.label_of(run)?,
             BLOCK => self.block(run, operand)?,
@@ -108,7 +116,7 @@ impl<R: Rules> Machine<'_, R> {
             }
             DONE => drop(run.frames.pop().ok_or(Fault::FRAMES)?),
             THROW => return Err(Fault::thrown(run.stack.number(0)?)),
-            INPUT => self.input(run, operand),
+            INPUT => self.input(run, operand)?,
             _ => unreachable!("check 7 knows every opcode"),
         }
         Ok(Next::On)
@@ -123,15 +131,23 @@ impl<R: Rules> Machine<'_, R> {
         Ok(())
     }
 
-    fn input(&self, run: &mut Run, operand: usize) {
+    fn input(&self, run: &mut Run, operand: usize) -> Result<(), Fault> {
         let place = self.code[operand];
-        run.stack.push(Value::handle(self.store.get(place).kind, place));
+        run.stack.push(Value::handle(self.record(place)?.kind, place));
+        Ok(())
     }
 
     fn label_of(&self, run: &mut Run) -> Result<(), Fault> {
-        let label = self.store.get(run.stack.handle()?).label;
-        run.stack.replace(1, Value::Label(label));
+        let record = self.record(run.stack.handle()?)?;
+        self.rules.passes_over(LABOF, record.content)?;
+        run.stack.replace(1, Value::Label(record.label));
         Ok(())
+    }
+
+    /// The record in a place that a handle leads to.
+    #[inline]
+    fn record(&self, place: u8) -> Result<&Record, Fault> {
+        self.store.get(place).ok_or_else(|| self.rules.no_record())
     }
 
     fn raise(&self, run: &mut Run) -> Result<(), Fault> {
@@ -174,39 +190,32 @@ impl<R: Rules> Machine<'_, R> {
         Ok(())
     }
 
-    fn open(&mut self, run: &mut Run) -> Result<(), Fault> {
-        let record = *self.store.get(run.stack.sealed()?);
+    /// OPEN or READ, of the record at `place`.
+    #[inline]
+    fn open(&mut self, run: &mut Run, opcode: u8, place: u8) -> Result<(), Fault> {
+        let record = *self.record(place)?;
         let raised = self.rules.join(run.label, record.label);
-        if !self.rules.within_clearance(OPEN, raised, run.clearance) {
-            return Err(self.rules.unopened(record.content));
+        if !self.rules.within_clearance(opcode, raised, run.clearance) {
+            return Err(self.rules.unopened(opcode, record.content));
         }
+        let raiser = Raiser::of(opcode, record.content);
+        run.label = self.rules.raised(raiser, run.label, record.label, raised);
         match record.content {
             Content::Value(value) => {
-                run.label = self.rules.raised(Raiser::Open, run.label, record.label, raised);
                 run.stack.replace(1, value);
                 Ok(())
             }
-            Content::Fault(fault) => {
-                run.label = self.rules.raised(Raiser::OpenFault, run.label, record.label, raised);
-                Err(fault)
-            }
+            Content::Fault(fault) => Err(fault),
         }
-    }
-
-    fn read(&mut self, run: &mut Run) -> Result<(), Fault> {
-        let record = *self.store.get(run.stack.reference()?);
-        let raised = self.rules.join(run.label, record.label);
-        self.check_clearance(run, READ, raised)?;
-        let Content::Value(value) = record.content else { unreachable!("only outcomes hold faults") };
-        run.label = self.rules.raised(Raiser::Read, run.label, record.label, raised);
-        run.stack.replace(1, value);
-        Ok(())
     }
 
     fn write(&mut self, run: &mut Run) -> Result<(), Fault> {
         let place = run.stack.reference()?;
-        self.check_target(run, WRITE, self.store.get(place).label)?;
-        self.store.get_mut(place).content = Content::Value(run.stack.operand(1));
+        let record = self.record(place)?;
+        self.check_target(run, WRITE, record.label)?;
+        self.rules.passes_over(WRITE, record.content)?;
+        let content = Content::Value(run.stack.operand(1));
+        self.store.put(place, Record { content, ..*record });
         run.stack.drop(2);
         Ok(())
     }

@@ -1,9 +1,12 @@
-//! The printed form: one line per label, that label reading.
+//! The printed form: one line per label, that label reading; of a day, as many
+//! lines per label as it has jobs.
 
+use crate::day::Day;
 use crate::file::File;
-use crate::limits::{shown, view, MAX_VIEW};
+use crate::limits::{shown, view};
+use crate::parts::Refusal;
 use crate::rules::Paper;
-use crate::{machine, view as views};
+use crate::{jobs, machine, view as views};
 
 /// Bytes of each field in the front of a view, in order.
 const FRONT: [usize; 13] = [2, 2, 2, 2, 2, 2, 2, 8, 8, 8, 8, 8, 8];
@@ -14,16 +17,34 @@ const RECORD: [usize; 7] = [1, 1, 8, 8, 2, 8, 8];
 pub fn lines(bytes: &[u8]) -> String {
     let file = match File::parse(bytes) {
         Ok(file) => file,
-        Err(refusal) => return format!("refused {}\n", refusal.number()),
+        Err(refusal) => return refused(refusal),
     };
     let finished = machine::run(&file, &Paper);
-    let mut buffer = [0; MAX_VIEW];
     let mut text = String::new();
-    for &reader in file.labels() {
-        let length = views::write(&finished, reader, &mut buffer, &Paper).expect("every view fits");
-        push_view(&mut text, &buffer[..length]);
+    for &reader in file.parts.labels() {
+        push_view(&mut text, &views::bytes(&finished, reader, &Paper));
     }
     text
+}
+
+/// The lines for a day: for each of its labels in turn the views of its jobs, or
+/// the refusal.
+pub fn day_lines(bytes: &[u8]) -> String {
+    let day = match Day::parse(bytes) {
+        Ok(day) => day,
+        Err(refusal) => return refused(refusal),
+    };
+    let outcomes = jobs::run(&day, &Paper);
+    let mut text = String::new();
+    for &reader in day.parts.labels() {
+        let views = jobs::views(&day, &outcomes, reader, &Paper);
+        views.iter().for_each(|view| push_view(&mut text, view));
+    }
+    text
+}
+
+fn refused(refusal: Refusal) -> String {
+    format!("refused {}\n", refusal.number())
 }
 
 /// The line for one view.

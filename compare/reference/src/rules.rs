@@ -7,6 +7,7 @@
 
 use crate::label::Label;
 use crate::limits::NESTED_BLOCKS;
+use crate::opcode::OPEN;
 use crate::run::Run;
 use crate::store::Store;
 use crate::value::{Content, Ending, Fault};
@@ -24,6 +25,21 @@ pub enum Raiser {
     /// OPEN of a sealed fault, which is thrown next.
     OpenFault,
     Read,
+    /// READ of a reference that holds a fault, which is thrown next.
+    ReadFault,
+}
+
+impl Raiser {
+    /// The raiser that OPEN or READ is, as the record's content is.
+    #[inline]
+    pub fn of(opcode: u8, content: Content) -> Raiser {
+        match (opcode, content) {
+            (OPEN, Content::Value(_)) => Raiser::Open,
+            (OPEN, Content::Fault(_)) => Raiser::OpenFault,
+            (_, Content::Value(_)) => Raiser::Read,
+            (_, Content::Fault(_)) => Raiser::ReadFault,
+        }
+    }
 }
 
 /// A part of the view that is 0 where the final label is hidden.
@@ -97,10 +113,22 @@ pub trait Rules {
         raised
     }
 
-    /// What OPEN throws where the raised label is above the clearance.
+    /// What OPEN or READ throws where the raised label is above the clearance.
     #[inline]
-    fn unopened(&self, _content: Content) -> Fault {
+    fn unopened(&self, _opcode: u8, _content: Content) -> Fault {
         Fault::ABOVE_CLEARANCE
+    }
+
+    /// A fault for what a record holds that WRITE or LABOF is given: none, as
+    /// these do not look at it.
+    #[inline]
+    fn passes_over(&self, _opcode: u8, _content: Content) -> Result<(), Fault> {
+        Ok(())
+    }
+
+    /// What a handle to an empty place gives.
+    fn no_record(&self) -> Fault {
+        unreachable!("a handle is made with its record and goes with it")
     }
 
     /// What a block's outcome holds.

@@ -1,9 +1,9 @@
 //! The state of one run: the outermost one, or the body of a block.
 
-use crate::file::File;
 use crate::label::Label;
 use crate::limits::{FRAMES, LOCALS, STACK};
 use crate::opcode::Shape;
+use crate::parts::Job;
 use crate::value::{Fault, Value};
 
 #[derive(Clone, Debug)]
@@ -21,16 +21,17 @@ pub struct Run {
 }
 
 impl Run {
-    pub fn outermost(file: &File) -> Run {
+    /// The run of a job that finds so many input records.
+    pub fn outermost(job: &Job, inputs: usize) -> Run {
         Run {
-            at: 0,
+            at: job.start,
             stack: Stack::EMPTY,
             locals: [Value::ZERO; LOCALS],
             frames: Frames::EMPTY,
-            label: file.starting_label(),
-            clearance: file.starting_clearance(),
-            steps_left: file.steps,
-            places: Places { next: file.record_count(), end: file.places as usize },
+            label: job.label,
+            clearance: job.clearance,
+            steps_left: job.steps,
+            places: Places { next: inputs, end: job.places as usize },
             depth: 0,
         }
     }
@@ -186,10 +187,7 @@ impl Stack {
     /// The place of the record of either kind whose handle is on top.
     #[inline]
     pub fn handle(&self) -> Result<u8, Fault> {
-        match self.operand(0) {
-            Value::Sealed(place) | Value::Reference(place) => Ok(place),
-            _ => Err(Fault::WRONG_KIND),
-        }
+        self.operand(0).place().ok_or(Fault::WRONG_KIND)
     }
 }
 

@@ -46,12 +46,7 @@ impl Input {
 
 impl Script {
     pub fn bytes(&self) -> Vec<u8> {
-        let mut labels = Vec::new();
-        for label in &self.labels {
-            labels.extend([label.secrecy.len() as u8, label.integrity.len() as u8]);
-            labels.extend(&label.secrecy);
-            labels.extend(&label.integrity);
-        }
+        let labels = label_section(&self.labels);
         let records_at = header::LENGTH + labels.len();
         let code_at = records_at + input::LENGTH * self.records.len();
         let mut bytes = Vec::with_capacity(code_at + self.code.len());
@@ -68,13 +63,29 @@ impl Script {
             bytes.extend((number as u16).to_le_bytes());
         }
         bytes.extend(labels);
-        for record in &self.records {
-            bytes.extend([record.kind, record.label]);
-            bytes.extend(record.number.to_le_bytes());
-        }
+        bytes.extend(record_section(&self.records));
         bytes.extend(&self.code);
         bytes
     }
+}
+
+pub fn label_section(labels: &[Clauses]) -> Vec<u8> {
+    let mut bytes = Vec::new();
+    for label in labels {
+        bytes.extend([label.secrecy.len() as u8, label.integrity.len() as u8]);
+        bytes.extend(&label.secrecy);
+        bytes.extend(&label.integrity);
+    }
+    bytes
+}
+
+pub fn record_section(records: &[Input]) -> Vec<u8> {
+    let mut bytes = Vec::new();
+    for record in records {
+        bytes.extend([record.kind, record.label]);
+        bytes.extend(record.number.to_le_bytes());
+    }
+    bytes
 }
 
 /// A place in the code that instructions name before or after it is fixed.

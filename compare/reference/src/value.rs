@@ -22,6 +22,14 @@ impl Value {
             Kind::Reference => Value::Reference(place),
         }
     }
+
+    /// The place that a handle leads to.
+    pub fn place(self) -> Option<u8> {
+        match self {
+            Value::Sealed(place) | Value::Reference(place) => Some(place),
+            Value::Number(_) | Value::Label(_) => None,
+        }
+    }
 }
 
 #[derive(Clone, Copy, Debug, PartialEq, Eq)]
@@ -46,6 +54,8 @@ impl Fault {
     pub const ABOVE_BOUND: Fault = Fault::plain(31);
     /// The outcome of a body that was spent.
     pub const SPENT: Fault = Fault::plain(32);
+    /// What a handle in an input record becomes once a job's new records vanish.
+    pub const VANISHED: Fault = Fault::plain(33);
 
     pub const fn plain(code: u8) -> Fault {
         Fault { code, number: 0 }

@@ -1,9 +1,9 @@
 //! The view: what a reading label is shown of a finished run.
 
-use crate::file::Refusal;
 use crate::label::Label;
 use crate::limits::{shown, view};
 use crate::machine::Finished;
+use crate::parts::Refusal;
 use crate::rules::{Field, Rules};
 use crate::value::{Content, Ending, Record, Value};
 
@@ -15,17 +15,49 @@ pub fn write<R: Rules>(
     buffer: &mut [u8],
     rules: &R,
 ) -> Result<usize, Refusal> {
-    let shows = |record: &Record| rules.shows(record.label, finished.label, reader);
-    let (mut all, mut count) = (0, 0);
-    for (_, record) in finished.store.iter() {
-        all += 1;
-        count += usize::from(shows(record));
-    }
-    let length = view::RECORDS + shown::LENGTH * count;
+    let count = Count::new(finished, reader, rules);
+    let length = count.length();
     let view = buffer.get_mut(..length).ok_or(Refusal::Buffer)?;
+    fill(finished, count, reader, view, rules);
+    Ok(length)
+}
+
+/// The view.
+pub fn bytes<R: Rules>(finished: &Finished, reader: Label, rules: &R) -> Vec<u8> {
+    let count = Count::new(finished, reader, rules);
+    let mut view = vec![0; count.length()];
+    fill(finished, count, reader, &mut view, rules);
+    view
+}
+
+/// How many records there are, and how many of them are shown.
+struct Count {
+    all: usize,
+    shown: usize,
+}
+
+impl Count {
+    fn new<R: Rules>(finished: &Finished, reader: Label, rules: &R) -> Count {
+        let mut count = Count { all: 0, shown: 0 };
+        for (_, record) in finished.store.iter() {
+            count.all += 1;
+            count.shown += usize::from(rules.shows(record.label, finished.label, reader));
+        }
+        count
+    }
+
+    fn length(&self) -> usize {
+        view::RECORDS + shown::LENGTH * self.shown
+    }
+}
+
+/// Writes every byte of `view`, which has the view's length.
+fn fill<R: Rules>(finished: &Finished, count: Count, reader: Label, view: &mut [u8], rules: &R) {
+    let length = view.len();
+    let shows = |record: &Record| rules.shows(record.label, finished.label, reader);
     let (head, records) = view.split_at_mut(view::RECORDS);
     write_run(finished, reader, head, rules);
-    put(head, view::SHOWN, &(rules.counted(count, all) as u16).to_le_bytes());
+    put(head, view::SHOWN, &(rules.counted(count.shown, count.all) as u16).to_le_bytes());
     put(head, view::RECORDS_AT, &(view::RECORDS as u16).to_le_bytes());
     put(head, view::LENGTH, &(length as u16).to_le_bytes());
     let shown_records = finished.store.iter().filter(|(_, record)| shows(record));
@@ -35,7 +67,6 @@ pub fn write<R: Rules>(
         put(part, shown::LABEL, &label_bytes(record.label));
         put(part, shown::VALUE, &content_bytes(record.content));
     }
-    Ok(length)
 }
 
 /// The parts that tell of the run as a whole: 0 unless its final label flows to

@@ -65,3 +65,50 @@ fn what_it_cannot_do_is_an_error() {
         assert!(String::from_utf8_lossy(&output.stderr).starts_with("reference: "));
     }
 }
+
+/// L 2, C 0, J 2, 10 steps for the day; both jobs PUSH 5, END, with 10 steps each.
+fn day() -> Vec<u8> {
+    let job = [0, 0, 1, 0, 10, 0, 0, 0, 0, 0, 6, 0];
+    let header = [2, 0, 20, 0, 0, 0, 25, 0, 2, 0, 25, 0, 6, 0, 49, 0, 10, 0, 0, 0];
+    [&header[..], &EXAMPLE[16..21], &job, &job, &EXAMPLE[21..]].concat()
+}
+
+const SKIPPED: &str = "0400 0000 0000 0000 3e00 3e00 0000 0000000000000000 0000000000000000 \
+                       0000000000000000 0000000000000000 0000000000000000 0000000000000000\n";
+
+#[test]
+fn a_day_prints_a_line_for_each_label_and_job() {
+    let output = run(&["--day"], &day());
+    assert!(output.status.success());
+    assert_eq!(String::from_utf8_lossy(&output.stdout), [LINE, SKIPPED, LINE, SKIPPED].concat());
+    assert!(output.stderr.is_empty());
+}
+
+#[test]
+fn days_are_refused_and_told_from_plain_files_by_the_option() {
+    let mut bad = day();
+    bad[25] = 16;
+    let cases: [(&[&str], &[u8], &str); 5] = [
+        (&["--day"], &bad, "refused 10\n"),
+        (&["--day"], &EXAMPLE, "refused 3\n"),
+        (&[], &day(), "refused 3\n"),
+        (&["--day"], &[0; 65_536], "refused 1\n"),
+        (&["--day"], &[], "refused 1\n"),
+    ];
+    for (options, file, line) in cases {
+        let output = run(options, file);
+        assert!(output.status.success());
+        assert_eq!(String::from_utf8_lossy(&output.stdout), line);
+    }
+}
+
+#[test]
+fn a_batch_of_days_prints_every_day_and_a_dot() {
+    let mut input = Vec::new();
+    batch::push(&mut input, b"short");
+    batch::push(&mut input, &day());
+    let output = run(&["--day", "--batch"], &input);
+    assert!(output.status.success());
+    let lines = ["refused 1\n.\n", LINE, SKIPPED, LINE, SKIPPED, ".\n"].concat();
+    assert_eq!(String::from_utf8_lossy(&output.stdout), lines);
+}

@@ -3,7 +3,8 @@ use mathlib.Core.Bool.{true, false}
 use mathlib.Core.List.{List}
 use mathlib.Core.Path.{_≡_}
 use Prim.Native.Nat.{ℕ, _≤_, _<_}
-use borrow.Author.Tests.{lt-ltb, le-ltb, leb-true}
+use native.Mathlib.Omega.{arith}
+use borrow.Author.Tests.{lt-ltb, le-ltb, leb-true, ne-eqb}
 use lib.Dec.{leb}
 use lib.ListN.{length}
 use Rattle.labels.specs.declared.Label.{Label}
@@ -15,10 +16,19 @@ use Rattle.view.specs.declared.Answer.the-variants.{Viewed}
 use Rattle.reading.specs.Answers.{reads}
 use Rattle.day_file.specs.declared.Header.{Header}
 use Rattle.day_file.specs.Sections.{dayHeader}
+use Rattle.day_file.specs.Loading.{loadedDay}
 use Rattle.day_file.specs.Parts.{DayLoads}
+use Rattle.day_file.specs.declared.Loaded.the-variants.{Refused}
+use Rattle.day_file.proofs.Answers.{refused-number}
 use Rattle.day.specs.Running.{dayTurns}
 use Rattle.day.specs.Views.{turnViews, dayView, dayReading}
 use Rattle.day.proofs.Jobs.{labels-are}
+
+pub read-stopped : (bs : List ℕ) (i : ℕ) (b : List ℕ) (n : ℕ) → Refused n ≡ loadedDay bs → refuse n b ≡ dayReading bs i b
+unfolding dayReading
+read-stopped bs i b n e =
+    let r = refused-number bs n e in
+    rw (← r .0, ne-eqb n 0 (λ z. omega (arith, r .1)))
 
 module _ (bs : List ℕ) (h : Header) (ws : List ℕ) (w : DayLoads bs h ws) (i : ℕ) (b : List ℕ) where
   pub read-unlisted : h .labels .count ≤ i → refuse 8 b ≡ dayReading bs i b

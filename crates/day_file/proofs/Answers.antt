@@ -11,7 +11,7 @@ use Rattle.model.specs.Words.{labelIn}
 use Rattle.file_sections.specs.Sections.{orNone}
 use Rattle.file_sections.specs.Words.{labelWords}
 use Rattle.file_sections.proofs.Tests.{every-each}
-use Rattle.file_sections.proofs.Labels.{words-are-labels}
+use Rattle.file_sections.proofs.Labels.{words-are-labels, length-lent}
 use Rattle.day_file.specs.Sections.{dayHeader, daySections, dayLabels, dayLabel, dayJobs, jobFrom}
 use Rattle.day_file.specs.Checks.{sizeOk, passes1, passes2, passes3, passes4, passes10, passes6, passes7, jobOk, jobsOk, spanOk, check, dayRefusal}
 use Rattle.day_file.specs.Loading.{answer, loadedDay, dayWords}
@@ -168,6 +168,10 @@ module _ (bs : List ℕ) where
   day-loads h ws was e w =
       let none = day-number h e in
       record { none = none; numbers = day-header h e; labels = rw none at w }
+
+  -- the words are as many as before
+  pub words-lent : (was ws : List ℕ) → length was ≡ 64 → ws ≡ dayWords bs was → length ws ≡ 64
+  words-lent = length-lent (dayRefusal bs) (dayLabels bs)
 
   -- what a refusal, and what a day that loads, promise of the answer and of the words
   pub refuses : (ws : List ℕ) (n : ℕ) → dayRefusal bs ≡ suc n → (Refused (suc n) ≡ loadedDay bs) × (ws ≡ dayWords bs ws)

@@ -58,17 +58,13 @@ abbrev pub Bounded : ℕ → Answer → Type 0
 Bounded most (Refused n) = (1 ≤ n) × (n ≤ most)
 Bounded most (Viewed n) = recordsAt ≤ n
 
-pub answered-bounded : (most r l : ℕ) (v : List ℕ) (i : ℕ) (b : List ℕ) → r ≤ most → 9 ≤ most → recordsAt ≤ length v ⊎ (1 ≤ r)
+pub answered-bounded : (most r l : ℕ) (v : List ℕ) (i : ℕ) (b : List ℕ) → r ≤ most → 9 ≤ most → (r ≡ 0 → recordsAt ≤ length v)
     → Bounded most (answered r l v i b .answer)
 answered-bounded most r l v i b small nine long = either (refused-or-viewed most r l v i b small nine)
   where
-    enough : r ≡ 0 → recordsAt ≤ length v ⊎ (1 ≤ r) → recordsAt ≤ length v
-    enough z (inl h) = h
-    enough z (inr h) = absurd (omega arith)
-
     either : IsRefused most b (answered r l v i b) ⊎ ((r ≡ 0) × (answered r l v i b ≡ viewed v b)) → Bounded most (answered r l v i b .answer)
     either (inl x) = subst (λ (q : Reading). Bounded most (q .answer)) (sym (x .untouched)) (x .least, x .highest)
-    either (inr x) = subst (λ (q : Reading). Bounded most (q .answer)) (sym (x .1)) (enough (x .0) long)
+    either (inr x) = subst (λ (q : Reading). Bounded most (q .answer)) (sym (x .1)) (long (x .0))
 
 -- the number tells the answer
 pub told-bounded : (most : ℕ) → most < recordsAt → (r : Answer) → Bounded most r → told (codeOf r) ≡ r

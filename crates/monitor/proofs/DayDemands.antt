@@ -3,7 +3,8 @@ use mathlib.Core.Bool.{Bool, true, false}
 use mathlib.Core.List.{List, [], _∷_, _++_}
 use mathlib.Core.Logic.{_⊎_, inl, inr}
 use mathlib.Core.Path.{_≡_, sym, subst₂}
-use Prim.Native.Nat.{ℕ, zero, suc, _≤_, _<_}
+use Prim.Native.Nat.{ℕ, zero, suc, _+_, _≤_, _<_}
+use native.Mathlib.Decide.{decLt}
 use native.Mathlib.Omega.{arith}
 use lib.ListN.{length, length-append, drop}
 use Rattle.labels.specs.Order.{flows}
@@ -11,20 +12,21 @@ use Rattle.labels.specs.declared.Label.{Label}
 use Rattle.model.specs.State.{Store}
 use Rattle.model.specs.Inputs.{inputSlots}
 use Rattle.model.specs.Running.{startStore}
-use Rattle.view.specs.Layout.{recordsAt, viewLength, view}
+use Rattle.view.specs.Layout.{recordsAt, viewLength}
 use Rattle.view.specs.Reading.{Reading}
 use Rattle.view.specs.declared.Answer.{Answer}
 use Rattle.view.specs.declared.Answer.the-variants.{Viewed}
 use Rattle.view.proofs.Widths.{length-view}
 use Rattle.day_file.specs.declared.Job.{Job}
-use Rattle.day_file.specs.Sections.{dayHeader, dayLabel, dayInputs, dayJobs, jobsFrom}
+use Rattle.day_file.specs.Sections.{dayHeader, dayLabel, dayInputs, dayJobs, jobFrom, jobsFrom}
 use Rattle.day_file.specs.Checks.{dayRefusal}
 use Rattle.day_file.proofs.Limits.{Fits}
 use Rattle.day_file.proofs.Tests.{AllJobs}
 use Rattle.day_file.proofs.Answers.{refusal-most, few-jobs, jobs-fit}
-use Rattle.day.specs.Running.{jobProgram, jobAccount, jobRun, storeAfter, admitted, turns, dayTurns}
-use Rattle.day.specs.Views.{skippedView, turnView, eachTurn, turnViews, dayView, dayReading}
+use Rattle.day.specs.Running.{jobProgram, jobAccount, storeAfter, admitted, Turn, skipped, ran, dayTurns}
+use Rattle.day.specs.Views.{turnView, eachTurn, turnViews, dayView, dayReading}
 use Rattle.day.proofs.Views.{length-skipped}
+use Rattle.day.proofs.Turns.{turnsFrom, turn-skipped, turn-ran}
 use Rattle.noninterference.specs.Alike.{SameReads}
 use Rattle.day_noninterference.specs.Alike.{DayAlike}
 use Rattle.day_noninterference.proofs.Demand3.{day-demand-3}
@@ -55,6 +57,10 @@ module _ (bs : List ℕ) where
   each-job (j ∷ js) (true ∷ ads) σ fit = (charged (jobProgram bs j) (jobAccount bs j) σ (fit .0 .inputs-fit), each-job js ads (storeAfter bs j σ) (fit .1))
   each-job (j ∷ js) (false ∷ ads) σ fit = each-job js ads σ (fit .1)
 
+  all-jobs : dayRefusal bs ≡ 0 → EachJob bs (dayJobs bs) (admitted (dayHeader bs .steps) (dayJobs bs)) (startStore (inputSlots (dayInputs bs)))
+  all-jobs none =
+      each-job (dayJobs bs) (admitted (dayHeader bs .steps) (dayJobs bs)) (startStore (inputSlots (dayInputs bs))) (jobs-fit bs none)
+
   module _ (i : ℕ) (b : List ℕ) where
     pub day-demand-1 : IsRefused mostDayRefusal b (dayReading bs i b) ⊎ IsDayViewed bs i b (dayReading bs i b)
     unfolding dayReading
@@ -64,7 +70,7 @@ module _ (bs : List ℕ) where
         either : IsRefused mostDayRefusal b (dayReading bs i b) ⊎ ((dayRefusal bs ≡ 0) × (dayReading bs i b ≡ viewed (dayView bs i) b))
             → IsRefused mostDayRefusal b (dayReading bs i b) ⊎ IsDayViewed bs i b (dayReading bs i b)
         either (inl r) = inl r
-        either (inr v) = inr (record { jobs = each-job _ _ _ (jobs-fit bs (v .0)); shown = v .1 })
+        either (inr v) = inr (record { jobs = all-jobs (v .0); shown = v .1 })
 
     -- ── demand 2: exact ──
 
@@ -83,19 +89,36 @@ two-day-calls bs cs i b d r q out back e f A h = subst₂ (SameReads b d) (sym e
 
 -- ── the call for C and Rust, which answers one number ──
 
--- the first of some jobs has a view, of 62 bytes at least
-views-least : (Reads : Label → Bool) (bs : List ℕ) (j : Job) (js : List Job) (left : ℕ) (σ : Store)
-    → recordsAt ≤ length (turnViews Reads (turns bs (j ∷ js) (admitted left (j ∷ js)) σ))
-views-least Reads bs j js left σ = ?
+module _ (Reads : Label → Bool) (bs : List ℕ) where
+  -- a view has 62 bytes at least
+  turn-least : (t : Turn) → recordsAt ≤ length (turnView Reads t)
+  unfolding turnView viewLength
+  turn-least skipped = omega (arith, length-skipped)
+  turn-least (ran s o) = omega (arith, length-view Reads s o)
+
+  first-least : (t : Turn) (ts : List Turn) → recordsAt ≤ length (turnViews Reads (t ∷ ts))
+  unfolding eachTurn
+  first-least t ts = omega (arith, turn-least t, length-append (turnView Reads t) (turnViews Reads ts))
+
+  -- and some jobs have one
+  views-least : (n at left : ℕ) (σ : Store) → 1 ≤ n → recordsAt ≤ length (turnViews Reads (turnsFrom bs (jobsFrom bs n at) left σ))
+  unfolding jobsFrom
+  views-least zero at left σ h = absurd (omega arith)
+  views-least (suc n) at left σ h = test (decLt left (jobFrom bs at .steps))
+    where
+      test : Dec (left < jobFrom bs at .steps) → recordsAt ≤ length (turnViews Reads (turnsFrom bs (jobFrom bs at ∷ jobsFrom bs n (at + 12)) left σ))
+      test (yes lt) = rw (turn-skipped bs (jobFrom bs at) (jobsFrom bs n (at + 12)) left σ lt) (first-least _ _)
+      test (no ge) = rw (turn-ran bs (jobFrom bs at) (jobsFrom bs n (at + 12)) left σ (omega arith)) (first-least _ _)
 
 day-least : (bs : List ℕ) (i : ℕ) → dayRefusal bs ≡ 0 → recordsAt ≤ length (dayView bs i)
 unfolding dayView dayTurns
-day-least bs i none = ?
+day-least bs i none = views-least (λ l. flows l (dayLabel bs i)) bs _ _ _ _ (few-jobs bs none .0)
 
 day-bounded : (bs : List ℕ) (i : ℕ) (b : List ℕ) → Bounded mostDayRefusal (dayReading bs i b .answer)
 unfolding dayReading
 day-bounded bs i b =
-    answered-bounded mostDayRefusal (dayRefusal bs) (dayHeader bs .labels .count) (dayView bs i) i b (refusal-most bs) (omega arith) ?
+    answered-bounded mostDayRefusal (dayRefusal bs) (dayHeader bs .labels .count) (dayView bs i) i b (refusal-most bs) (omega arith)
+    (day-least bs i)
 
 -- The number tells the answer.
 pub day-code-tells : (bs : List ℕ) (i : ℕ) (b : List ℕ) → told (codeOf (dayReading bs i b .answer)) ≡ dayReading bs i b .answer

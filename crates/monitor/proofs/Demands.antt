@@ -104,7 +104,7 @@ bounded : (bs : List ℕ) (i : ℕ) (b : List ℕ) → Bounded mostRefusal (read
 unfolding reading
 bounded bs i b =
     answered-bounded mostRefusal (refusal bs) (header bs .labels .count) (fileView bs i) i b (omega (arith, refusal-most bs)) (omega arith)
-    (inl (view-least bs i))
+    (λ _. view-least bs i)
 
 -- The number tells the answer.
 pub code-tells : (bs : List ℕ) (i : ℕ) (b : List ℕ) → told (codeOf (reading bs i b .answer)) ≡ reading bs i b .answer

@@ -1,6 +1,9 @@
-//! Says what the files of seeds 0 to COUNT - 1 reach. Fails if a point is missed.
+//! Says what the files and the days of seeds 0 to COUNT - 1 reach. Fails if a
+//! point is missed.
 
 use generator::coverage::Coverage;
+use generator::day_coverage::DayCoverage;
+use generator::days;
 use std::process::ExitCode;
 
 fn main() -> ExitCode {
@@ -12,13 +15,16 @@ fn main() -> ExitCode {
             return ExitCode::FAILURE;
         }
     };
-    let coverage = Coverage::default();
-    (0..count).for_each(|seed| coverage.add(&generator::any(seed)));
-    print!("{coverage}");
-    if coverage.missing().is_empty() {
+    let (of_files, of_days) = (Coverage::default(), DayCoverage::default());
+    for seed in 0..count {
+        of_files.add(&generator::any(seed));
+        of_days.add(&days::any(seed));
+    }
+    print!("{of_files}\n{of_days}");
+    if of_files.missing().is_empty() && of_days.missing().is_empty() {
         ExitCode::SUCCESS
     } else {
-        eprintln!("coverage: {count} files miss some points");
+        eprintln!("coverage: {count} files and days miss some points");
         ExitCode::FAILURE
     }
 }

@@ -1,0 +1,233 @@
+//! What a set of days reaches: refusals, skipped jobs, and what becomes of
+//! handles whose records are gone.
+
+use reference::day::Day;
+use reference::day_rules::DayRules;
+use reference::label::Label;
+use reference::limits::{day_header, job, MAX_DAY};
+use reference::machine::Finished;
+use reference::opcode::*;
+use reference::parts::Job;
+use reference::read_day_by;
+use reference::rules::{Paper, Raiser, Rules};
+use reference::run::Run;
+use reference::store::Store;
+use reference::value::{Content, Ending, Fault, Record, Value};
+use std::cell::{Cell, RefCell};
+use std::collections::BTreeMap;
+use std::fmt;
+
+/// Something that a day can reach.
+#[derive(Clone, Copy, Debug, PartialEq, Eq, PartialOrd, Ord)]
+pub enum Point {
+    Refused(u8),
+    /// A job was skipped, or ended with this number in its view.
+    Skipped,
+    Ended(u8),
+    /// A job ran behind a skipped one.
+    RanLater,
+    /// A job took all that was left of the day's steps.
+    UsedUp,
+    /// Jobs whose spans share bytes, and jobs of two callers.
+    Overlap,
+    TwoCallers,
+    /// A handle was turned into 33, in a record that the reader is shown or not.
+    TurnedSealed,
+    TurnedReference,
+    TurnedHidden,
+    /// A handle to an input record was kept.
+    Kept,
+    /// 33 was thrown by OPEN or READ, or sealed by a block.
+    ThrownBy(Opcode),
+    Sealed,
+    /// READ found 33 above the clearance.
+    Uncleared,
+    /// WRITE or LABOF was given a reference that holds 33.
+    PassedOver(Opcode),
+    /// READ gave what another job wrote, a handle too.
+    Read,
+    ReadHandle,
+}
+
+type Opcode = u8;
+
+/// Every point there is.
+pub fn all_points() -> Vec<Point> {
+    use Point::*;
+    let mut points = vec![Skipped, RanLater, UsedUp, Overlap, TwoCallers];
+    points.extend([TurnedSealed, TurnedReference, TurnedHidden, Kept]);
+    points.extend([ThrownBy(OPEN), ThrownBy(READ), Sealed, Uncleared, PassedOver(WRITE), PassedOver(LABOF)]);
+    points.extend([Read, ReadHandle]);
+    points.extend((1..=4).chain(6..=10).map(Refused));
+    points.extend((1..=3).map(Ended));
+    points
+}
+
+/// How often each point was reached.
+#[derive(Default)]
+pub struct DayCoverage {
+    counts: RefCell<BTreeMap<Point, u64>>,
+    reader: Cell<Option<Label>>,
+    /// Whether a job of the day was skipped.
+    skipped: Cell<bool>,
+    /// Whether a job of the day has ended.
+    later: Cell<bool>,
+}
+
+impl DayCoverage {
+    /// Reads `file` for each of its labels and one more, and once with a buffer
+    /// that is one byte too short.
+    pub fn add(&self, file: &[u8]) {
+        let mut buffer = vec![0; MAX_DAY];
+        let day = Day::parse_parts(file);
+        let labels = day.as_ref().map_or(&[][..], |day| day.parts.labels());
+        for reader in 0..=labels.len() {
+            self.reader.set(labels.get(reader).copied());
+            if let Some(length) = self.read(file, reader, &mut buffer) {
+                self.read(file, reader, &mut buffer[..length - 1]);
+            }
+        }
+        if Day::parse(file).is_ok() {
+            self.add_jobs(file);
+        }
+    }
+
+    /// What the jobs' entries alone tell.
+    fn add_jobs(&self, file: &[u8]) {
+        let at = |at: usize| usize::from(u16::from_le_bytes([file[at], file[at + 1]]));
+        let (jobs_at, code_at) = (at(day_header::JOBS_AT), at(day_header::CODE_AT));
+        let spans: Vec<(usize, usize, u8)> = (jobs_at..code_at)
+            .step_by(job::LENGTH)
+            .map(|entry| (at(entry + job::CODE_AT), at(entry + job::CODE_LENGTH), file[entry + job::CALLER]))
+            .collect();
+        for (second, &(start, length, caller)) in spans.iter().enumerate() {
+            for &(earlier, earlier_length, other) in &spans[..second] {
+                if start < earlier + earlier_length && earlier < start + length {
+                    self.reach(Point::Overlap);
+                }
+                if caller != other {
+                    self.reach(Point::TwoCallers);
+                }
+            }
+        }
+    }
+
+    fn read(&self, file: &[u8], reader: usize, buffer: &mut [u8]) -> Option<usize> {
+        self.skipped.set(false);
+        self.later.set(false);
+        let answer = read_day_by(self, file, reader, buffer);
+        answer.inspect_err(|refusal| self.reach(Point::Refused(refusal.number()))).ok()
+    }
+
+    fn reach(&self, point: Point) {
+        *self.counts.borrow_mut().entry(point).or_default() += 1;
+    }
+
+    pub fn count(&self, point: Point) -> u64 {
+        self.counts.borrow().get(&point).copied().unwrap_or(0)
+    }
+
+    pub fn missing(&self) -> Vec<Point> {
+        all_points().into_iter().filter(|&point| self.count(point) == 0).collect()
+    }
+
+    /// Notes what becomes of a content that is kept in an input record.
+    fn handed(&self, record: &Record, inputs: usize) {
+        let Content::Value(value @ (Value::Sealed(place) | Value::Reference(place))) = record.content else {
+            return;
+        };
+        if usize::from(place) < inputs {
+            return self.reach(Point::Kept);
+        }
+        self.reach(match value {
+            Value::Sealed(_) => Point::TurnedSealed,
+            _ => Point::TurnedReference,
+        });
+        if self.reader.get().is_some_and(|reader| !record.label.flows_to(reader)) {
+            self.reach(Point::TurnedHidden);
+        }
+    }
+}
+
+const GONE: Content = Content::Fault(Fault::VANISHED);
+
+impl Rules for DayCoverage {
+    fn raised(&self, raiser: Raiser, _current: Label, _by: Label, raised: Label) -> Label {
+        if raiser == Raiser::Read && self.later.get() {
+            self.reach(Point::Read);
+        }
+        raised
+    }
+
+    fn unopened(&self, opcode: u8, content: Content) -> Fault {
+        if (opcode, content) == (READ, GONE) {
+            self.reach(Point::Uncleared);
+        }
+        Paper.unopened(opcode, content)
+    }
+
+    fn passes_over(&self, opcode: u8, content: Content) -> Result<(), Fault> {
+        if content == GONE {
+            self.reach(Point::PassedOver(opcode));
+        }
+        Ok(())
+    }
+
+    fn outcome(&self, ending: Ending, within_bound: bool) -> Content {
+        let outcome = Paper.outcome(ending, within_bound);
+        if outcome == GONE {
+            self.reach(Point::Sealed);
+        }
+        outcome
+    }
+
+    fn obeyed(&self, run: &mut Run, opcode: u8, fault: Option<Fault>) {
+        if fault == Some(Fault::VANISHED) {
+            self.reach(Point::ThrownBy(opcode));
+        }
+        if opcode == READ && fault.is_none() && self.later.get() && run.stack.operand(0).place().is_some() {
+            self.reach(Point::ReadHandle);
+        }
+    }
+}
+
+impl DayRules for DayCoverage {
+    fn charged(&self, job: &Job, ran: Option<&Finished>) -> u32 {
+        match ran.map(|finished| finished.ending) {
+            None => {
+                self.skipped.set(true);
+                self.reach(Point::Skipped);
+            }
+            Some(Ending::Result(_)) => self.reach(Point::Ended(1)),
+            Some(Ending::Fault(_)) => self.reach(Point::Ended(2)),
+            Some(Ending::Spent) => self.reach(Point::Ended(3)),
+        }
+        if ran.is_some() && self.skipped.get() {
+            self.reach(Point::RanLater);
+        }
+        Paper.charged(job, ran)
+    }
+
+    fn admits(&self, declared: u16, left: u32) -> bool {
+        if u32::from(declared) == left {
+            self.reach(Point::UsedUp);
+        }
+        Paper.admits(declared, left)
+    }
+
+    fn handed_on(&self, before: Store, finished: &Finished, inputs: usize) -> Store {
+        self.later.set(true);
+        finished.store.iter().take(inputs).for_each(|(_, record)| self.handed(record, inputs));
+        Paper.handed_on(before, finished, inputs)
+    }
+}
+
+impl fmt::Display for DayCoverage {
+    fn fmt(&self, f: &mut fmt::Formatter) -> fmt::Result {
+        for point in all_points() {
+            writeln!(f, "{:<20} {}", format!("{point:?}"), self.count(point))?;
+        }
+        let (all, missing) = (all_points().len(), self.missing());
+        writeln!(f, "{} of {all} points of days reached, missing {missing:?}", all - missing.len())
+    }
+}

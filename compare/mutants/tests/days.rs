@@ -1,0 +1,80 @@
+//! Every mutant of days is found out, and the original is not.
+
+use cases::days;
+use mutants::day_by_hand;
+use mutants::day_list::{DayMutant, DAY_MUTANTS};
+use mutants::day_loader::PAPER;
+use mutants::day_search::{differs, leaks, pairs_needed, read, tells};
+use mutants::list::Harm;
+use mutants::wrong_day_loaders;
+use reference::day::Day;
+use reference::limits::MAX_DAY;
+use reference::rules::Paper;
+
+/// Mutants that need something that no generated day has: views of more than
+/// 65,535 bytes.
+const BY_HAND_ONLY: &[DayMutant] = &[DayMutant::SumWraps];
+
+#[test]
+fn generated_pairs_find_every_mutant() {
+    for &mutant in DAY_MUTANTS.iter().filter(|mutant| !BY_HAND_ONLY.contains(mutant)) {
+        let needed = pairs_needed(mutant, mutants::MOST_DAY_PAIRS);
+        assert!(needed.is_some(), "{mutant:?} passes for the original");
+    }
+}
+
+/// Leaks show on alike pairs, the rest on hand-worked days.
+#[test]
+fn every_mutant_is_found_by_hand() {
+    let (pairs, cases) = (day_by_hand::pairs(), days::all());
+    for &mutant in DAY_MUTANTS {
+        let found = match mutant.harm() {
+            Harm::Leak => pairs.iter().any(|(_, pair)| leaks(mutant, pair)),
+            Harm::Wrong => cases.iter().any(|case| differs(mutant, &case.file)),
+        };
+        assert!(found, "{mutant:?} passes for the original");
+    }
+}
+
+/// A leak is wrong as well, and the hand-worked days show it.
+#[test]
+fn hand_worked_days_find_leaks_too() {
+    let cases = days::all();
+    for &mutant in DAY_MUTANTS {
+        assert!(cases.iter().any(|case| differs(mutant, &case.file)), "{mutant:?}");
+    }
+}
+
+#[test]
+fn pairs_by_hand_tell_their_mutants_and_clear_the_original() {
+    for (at, (mutants, pair)) in day_by_hand::pairs().iter().enumerate() {
+        assert_ne!(pair.file, pair.other);
+        let views = [&pair.file, &pair.other].map(|file| read(&Paper, file, pair.reader, MAX_DAY));
+        assert!(views[0].0.is_ok(), "pair {at}");
+        assert_eq!(views[0], views[1], "pair {at}");
+        for &mutant in *mutants {
+            assert!(tells(mutant, pair), "pair {at} does not tell {mutant:?}");
+        }
+    }
+}
+
+#[test]
+fn the_loader_answers_as_the_reference_does() {
+    let right = |file: &[u8]| Day::parse(file).err().map(|refusal| refusal.number());
+    for case in days::all() {
+        assert_eq!(PAPER.refusal(&case.file), right(&case.file), "{}", case.name);
+    }
+    for seed in 0..5_000 {
+        let file = generator::days::any(seed);
+        assert_eq!(PAPER.refusal(&file), right(&file), "seed {seed}");
+    }
+}
+
+#[test]
+fn hand_worked_days_find_every_wrong_loader() {
+    let cases = days::all();
+    for wrong in wrong_day_loaders::all() {
+        let told = |case: &days::DayCase| wrong.loader.refusal(&case.file) != PAPER.refusal(&case.file);
+        assert!(cases.iter().any(told), "check {}: {}", wrong.check, wrong.says);
+    }
+}
