@@ -45,12 +45,12 @@ unfoldable pub lines : List ℕ → ℕ → ℕ → List ℕ
 lines bs zero i = []
 lines bs (suc n) i = line (fileView bs i) ++ lines bs n (suc i)
 
--- a number in decimal: below 10 one digit, else the digits of n / 10 and the digit n % 10; at most k + 1 of them
+-- the digits of n, at most k + 1: below 10 one, else those of n / 10 and n % 10
 unfoldable pub digits : ℕ → ℕ → List ℕ
 digits zero n = (0x30 + n) ∷ []
 digits (suc k) n = cond (ltb n 10) ((0x30 + n) ∷ []) (digits k (n / 10) ++ ((0x30 + n % 10) ∷ []))
 
--- no number has more than n + 1 digits
+-- a number in decimal; none has more than n + 1 digits
 unfoldable pub decimal : ℕ → List ℕ
 decimal n = digits n n
 
