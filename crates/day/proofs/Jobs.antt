@@ -1,10 +1,9 @@
 -- What a day that loads hands to the machine for a job, in parts, is what the definition runs the job with.
 use mathlib.Core.List.{List}
-use mathlib.Core.Path.{_≡_, sym, ap, ap₂, _∙_}
-use Prim.Native.Nat.{ℕ, _+_, _-_, _*_, _≤_, _<_, _^_}
+use mathlib.Core.Path.{_≡_, ap}
+use Prim.Native.Nat.{ℕ, _+_, _*_, _≤_, _<_, _^_}
 use native.Mathlib.Omega.{arith}
-use lib.ListN.{length, take, drop, length-take, length-drop}
-use lib.Seq.{drop-drop}
+use lib.ListN.{length, length-take, length-drop}
 use Rattle.labels.specs.declared.Label.{Label}
 use Rattle.model.specs.State.{Store}
 use Rattle.model.specs.Inputs.{inputs}
@@ -18,15 +17,9 @@ use Rattle.day_file.specs.Sections.{daySections, dayLabel, jobFrom, span}
 use Rattle.day_file.specs.Parts.{DayLoads}
 use Rattle.day_file.proofs.Limits.{Counted, Placed, Fits}
 use Rattle.day_file.proofs.Answers.{within-limits, in-place, day-labels, job-fits}
+use Rattle.day_file.proofs.Findings.{recordsIn, spanIn, records-in, span-in}
 use Rattle.day.specs.Running.{jobProgram, jobAccount, jobRun}
 use Rattle.day.specs.Parts.{Runnable}
-
--- the parts that the code takes of a day, where the header and the job say
-abbrev pub recordsIn : Header → List ℕ → List ℕ
-recordsIn h bs = take (h .jobs .offset - h .records .offset) (drop (h .records .offset) bs)
-
-abbrev pub spanIn : Header → Job → List ℕ → List ℕ
-spanIn h j bs = take (h .code .offset + j .start + j .length - (h .code .offset + j .start)) (drop (h .code .offset + j .start) bs)
 
 module _ (bs : List ℕ) (h : Header) (ws : List ℕ) (w : DayLoads bs h ws) where
   pub limits : Counted h
@@ -39,11 +32,7 @@ module _ (bs : List ℕ) (h : Header) (ws : List ℕ) (w : DayLoads bs h ws) whe
   labels-are = rw (w .labels) (day-labels bs (w .none))
 
   pub records-are : recordsIn h bs ≡ recordBytesOf (daySections bs) bs
-  unfolding recordBytesOf
-  records-are =
-      let size : h .jobs .offset - h .records .offset ≡ 6 * h .records .count = omega (arith, ordered .jobs) in
-      ap (λ (n : ℕ). take n (drop (h .records .offset) bs)) size
-      ∙ ap (λ (g : Header). take (6 * g .records .count) (drop (g .records .offset) bs)) (w .numbers)
+  records-are = records-in bs h (w .numbers) (ordered .jobs)
 
   records-length : length (recordsIn h bs) ≡ 6 * h .records .count
   records-length = simp (length-take, length-drop) (omega (arith, ordered .jobs, ordered .code, ordered .whole))
@@ -57,26 +46,19 @@ module _ (bs : List ℕ) (h : Header) (ws : List ℕ) (w : DayLoads bs h ws) whe
   -- ── a job ──
 
   module _ (j : Job) where
-    pub span-is : spanIn h j bs ≡ span bs j
-    unfolding span
-    span-is =
-        ap₂ (λ (n : ℕ) (cs : List ℕ). take n cs) (let e : h .code .offset + j .start + j .length - (h .code .offset + j .start) ≡ j .length = omega arith in e)
-        (sym (drop-drop (j .start) (h .code .offset) bs))
-        ∙ ap (λ (g : Header). take (j .length) (drop (j .start) (drop (g .code .offset) bs))) (w .numbers)
-
-    program-is : program (spanIn h j bs) ws (recordsIn h bs) ≡ jobProgram bs j
+    program-is : program (spanIn h bs j) ws (recordsIn h bs) ≡ jobProgram bs j
     unfolding program jobProgram inputsOf
     program-is =
-        rw (span-is, labels-are, counted, records-are)
+        rw (span-in bs h (w .numbers) j, labels-are, counted, records-are)
         (ap (λ (g : Header). programOf (span bs j) (dayLabel bs) (inputs (dayLabel bs) (recordBytesOf (daySections bs) bs) (g .records .count) 0)) (w .numbers))
 
     -- the run that the machine makes of the parts
     pub run-is : (l c : Label) (σ : Store) → l ≡ labelIn ws (j .label) → c ≡ labelIn ws (j .clearance)
-        → runs (program (spanIn h j bs) ws (recordsIn h bs)) startControl (startAccount l c (j .steps) (count (recordsIn h bs)) (j .places)) σ ≡ jobRun bs j σ
+        → runs (program (spanIn h bs j) ws (recordsIn h bs)) startControl (startAccount l c (j .steps) (count (recordsIn h bs)) (j .places)) σ ≡ jobRun bs j σ
     unfolding jobRun jobAccount
     run-is l c σ el ec = rw (el, ec, program-is, counted, labels-are, w .numbers)
 
-    pub span-short : j .length < 2 ^ 16 → length (spanIn h j bs) < 2 ^ 16
+    pub span-short : j .length < 2 ^ 16 → length (spanIn h bs j) < 2 ^ 16
     span-short s = simp (length-take, length-drop) (omega arith)
 
   -- job k is one that the code can run

@@ -28,11 +28,12 @@ use Rattle.day_file.specs.declared.Header.{Header}
 use Rattle.day_file.specs.declared.Job.{Job}
 use Rattle.day_file.specs.Sections.{dayHeader, dayInputs}
 use Rattle.day_file.specs.Parts.{DayLoads}
+use Rattle.day_file.proofs.Findings.{recordsIn}
 use Rattle.day.specs.JobEnd.{endJob}
 use Rattle.day.specs.Running.{ran, jobRun, storeAfter, dayTurns}
 use Rattle.day.specs.Views.{skippedView, turnView, turnViews}
 use Rattle.day.specs.Parts.{shownAt}
-use Rattle.day.proofs.Jobs.{recordsIn, records-are, counted, labels-are}
+use Rattle.day.proofs.Jobs.{records-are, counted, labels-are}
 use Rattle.day.proofs.Turns.{job, made, made-skipped, made-ran, made-nothing, made-all, Shows, shows-none, shows-more, shows-all}
 
 -- ── a view from a place of the buffer on ──

@@ -234,7 +234,7 @@ fn most_bytes(file: &[u8], h: Header) -> usize
     let first = jobs.offset;
     let count = jobs.count;
     let mut n = 0;
-    let mut k = 0;
+    let mut k: usize = 0;
     while k < count {
         let job = day_file::job_at(file, first + 12 * k);
         n += RECORDS + RECORD * job.places;

@@ -53,7 +53,7 @@ module _ (bs : List ℕ) where
     unfolding labelsOf labelBytesOf
     day-table t e = e ∙ ap (λ (g : Header). tableOf (readLabels (g .labels .count) (take (g .records .offset - 20) (drop 20 bs)))) is
 
-    records-in : h .jobs .offset ≡ h .records .offset + 6 * h .records .count → recordsIn h bs ≡ recordBytesOf (daySections bs) bs
+    pub records-in : h .jobs .offset ≡ h .records .offset + 6 * h .records .count → recordsIn h bs ≡ recordBytesOf (daySections bs) bs
     unfolding recordBytesOf
     records-in e =
         let count : h .jobs .offset - h .records .offset ≡ 6 * h .records .count = omega arith in
@@ -66,14 +66,17 @@ module _ (bs : List ℕ) where
     finds6 e r =
         ap₂ (λ (g : Header) (rs : List ℕ). recordsOk (g .labels .count) rs (g .records .count) 0) (sym is) (sym (records-in e)) ∙ r
 
+    pub span-in : (j : Job) → spanIn h bs j ≡ span bs j
+    unfolding span
+    span-in j =
+        let size : h .code .offset + j .start + j .length - (h .code .offset + j .start) ≡ j .length = omega arith in
+        ap₂ (λ (n : ℕ) (xs : List ℕ). take n xs) size (sym (drop-drop (j .start) (h .code .offset) bs))
+        ∙ ap (λ (g : Header). take (j .length) (drop (j .start) (drop (g .code .offset) bs))) is
+
     -- check 7: of one job, and of all
     pub finds-span : (j : Job) {b : Bool} → codeOk (h .labels .count) (h .records .count) (spanIn h bs j) ≡ b → spanOk bs j ≡ b
-    unfolding spanOk span
-    finds-span j r =
-        let size : j .length ≡ h .code .offset + j .start + j .length - (h .code .offset + j .start) = omega arith in
-        ap (λ (g : Header). codeOk (g .labels .count) (g .records .count) (take (j .length) (drop (j .start) (drop (g .code .offset) bs)))) (sym is)
-        ∙ ap₂ (λ (n : ℕ) (xs : List ℕ). codeOk (h .labels .count) (h .records .count) (take n xs)) size (drop-drop (j .start) (h .code .offset) bs)
-        ∙ r
+    unfolding spanOk
+    finds-span j r = ap₂ (λ (g : Header) (code : List ℕ). codeOk (g .labels .count) (g .records .count) code) (sym is) (sym (span-in j)) ∙ r
 
     pub finds7 : {b : Bool} → allPass (spanOk bs) bs (h .jobs .count) (h .jobs .offset) ≡ b → passes7 bs ≡ b
     unfolding passes7
