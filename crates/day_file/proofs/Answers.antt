@@ -1,6 +1,7 @@
 -- The answer and its number.
 use mathlib.Core.Bool.{true}
 use mathlib.Core.List.{List}
+use mathlib.Core.Logic.{_≢_}
 use mathlib.Core.Path.{_≡_, refl, ap, sym, _∙_, fun-ext}
 use Prim.Native.Nat.{ℕ, zero, suc, _+_, _*_, _≤_, _<_}
 use native.Mathlib.Omega.{arith}
@@ -20,7 +21,7 @@ use Rattle.day_file.specs.declared.Header.{Header}
 use Rattle.day_file.specs.declared.Loaded.{Loaded}
 use Rattle.day_file.specs.declared.Loaded.the-variants.{Refused, Day}
 use Rattle.day_file.proofs.Limits.{Counted, counted, Placed, placed, Fits, fits}
-use Rattle.day_file.proofs.Tests.{none-stops, check-most, AllJobs, all-hold, all-map, each-job}
+use Rattle.day_file.proofs.Tests.{none-stops, check-most, check-not, AllJobs, all-hold, all-map, each-job}
 
 -- ── the checks in their order ──
 
@@ -54,6 +55,18 @@ module _ (bs : List ℕ) where
       let m3 : from3 ≤ 10 = check-most 10 3 (passes3 bs) from4 (omega arith) m4 in
       let m2 : from2 ≤ 10 = check-most 10 2 (passes2 bs) from3 (omega arith) m3 in
       check-most 10 1 (passes1 bs) from2 (omega arith) m2
+
+  -- 10 is tried in place of 5
+  pub refusal-not-5 : dayRefusal bs ≢ 5
+  unfolding dayRefusal
+  refusal-not-5 =
+      let n7 : from7 ≢ 5 = check-not 5 7 (passes7 bs) 0 (λ e. omega arith) (λ e. omega arith) in
+      let n6 : from6 ≢ 5 = check-not 5 6 (passes6 bs) from7 (λ e. omega arith) n7 in
+      let n10 : from10 ≢ 5 = check-not 5 10 (passes10 bs) from6 (λ e. omega arith) n6 in
+      let n4 : from4 ≢ 5 = check-not 5 4 (passes4 bs) from10 (λ e. omega arith) n10 in
+      let n3 : from3 ≢ 5 = check-not 5 3 (passes3 bs) from4 (λ e. omega arith) n4 in
+      let n2 : from2 ≢ 5 = check-not 5 2 (passes2 bs) from3 (λ e. omega arith) n3 in
+      check-not 5 1 (passes1 bs) from2 (λ e. omega arith) n2
 
 -- ── what the checks tell ──
 

@@ -1,6 +1,7 @@
 -- Laws of tests: the first check that stops a day, and tests of each job.
 use mathlib.Core.Bool.{Bool, true, false, true≢false}
 use mathlib.Core.List.{List, [], _∷_, map}
+use mathlib.Core.Logic.{_≢_}
 use mathlib.Core.Path.{_≡_, refl, sym, subst}
 use Prim.Native.Nat.{ℕ, zero, suc, _+_, _*_, _≤_, _<_}
 use native.Mathlib.Omega.{arith}
@@ -30,6 +31,11 @@ none-stops n false behind e = absurd (omega arith)
 pub check-most : (m n : ℕ) (b : Bool) (behind : ℕ) → n ≤ m → behind ≤ m → check n b behind ≤ m
 check-most m n true behind own others = others
 check-most m n false behind own others = own
+
+-- and are not m where none of them has that number
+pub check-not : (m n : ℕ) (t : Bool) (behind : ℕ) → n ≢ m → behind ≢ m → check n t behind ≢ m
+check-not m n true behind h k = k
+check-not m n false behind h k = h
 
 -- ── each job of a list ──
 

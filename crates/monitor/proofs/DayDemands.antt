@@ -22,7 +22,7 @@ use Rattle.day_file.specs.Sections.{dayHeader, dayLabel, dayInputs, dayJobs, jo
 use Rattle.day_file.specs.Checks.{dayRefusal}
 use Rattle.day_file.proofs.Limits.{Fits}
 use Rattle.day_file.proofs.Tests.{AllJobs}
-use Rattle.day_file.proofs.Answers.{refusal-most, few-jobs, jobs-fit}
+use Rattle.day_file.proofs.Answers.{refusal-most, refusal-not-5, few-jobs, jobs-fit}
 use Rattle.day.specs.Running.{jobProgram, jobAccount, storeAfter, admitted, Turn, skipped, ran, dayTurns}
 use Rattle.day.specs.Views.{turnView, eachTurn, turnViews, dayView, dayReading}
 use Rattle.day.proofs.Views.{length-skipped}
@@ -31,8 +31,8 @@ use Rattle.noninterference.specs.Alike.{SameReads}
 use Rattle.day_noninterference.specs.Alike.{DayAlike}
 use Rattle.day_noninterference.proofs.Demand3.{day-demand-3}
 use Rattle.reading.specs.Answers.{reads, codeOf}
-use Rattle.monitor.specs.Calls.{mostDayRefusal, told, SameCalls}
-use Rattle.monitor.proofs.Answered.{IsRefused, viewed, refused-or-viewed, answered-viewed, Bounded, answered-bounded, told-bounded, same-calls}
+use Rattle.monitor.specs.Calls.{DayRefusal, told, SameCalls}
+use Rattle.monitor.proofs.Answered.{IsRefused, viewed, Numbers, refused-or-viewed, answered-viewed, Bounded, answered-bounded, told-bounded, same-calls}
 use Rattle.monitor.proofs.Charged.{Charged, charged}
 
 -- ── demand 1: total ──
@@ -49,6 +49,14 @@ pub record IsDayViewed (bs : List ℕ) (i : ℕ) (b : List ℕ) (q : Reading) : 
   pub jobs : EachJob bs (dayJobs bs) (admitted (dayHeader bs .steps) (dayJobs bs)) (startStore (inputSlots (dayInputs bs)))
   pub shown : q ≡ record { answer = Viewed (length (dayView bs i)); buffer = dayView bs i ++ drop (length (dayView bs i)) b }
 
+day-numbers : (bs : List ℕ) → Numbers DayRefusal (dayRefusal bs)
+day-numbers bs =
+    record {
+      checks = λ some. (some, refusal-most bs, refusal-not-5 bs);
+      reader = (omega arith, omega arith, λ e. omega arith);
+      buffer = (omega arith, omega arith, λ e. omega arith);
+    }
+
 module _ (bs : List ℕ) where
   each-job : (js : List Job) (ads : List Bool) (σ : Store) → AllJobs (Fits (dayHeader bs) (dayLabel bs)) js → EachJob bs js ads σ
   unfolding jobAccount
@@ -62,13 +70,13 @@ module _ (bs : List ℕ) where
       each-job (dayJobs bs) (admitted (dayHeader bs .steps) (dayJobs bs)) (startStore (inputSlots (dayInputs bs))) (jobs-fit bs none)
 
   module _ (i : ℕ) (b : List ℕ) where
-    pub day-demand-1 : IsRefused mostDayRefusal b (dayReading bs i b) ⊎ IsDayViewed bs i b (dayReading bs i b)
+    pub day-demand-1 : IsRefused DayRefusal b (dayReading bs i b) ⊎ IsDayViewed bs i b (dayReading bs i b)
     unfolding dayReading
     day-demand-1 =
-        either (refused-or-viewed mostDayRefusal (dayRefusal bs) (dayHeader bs .labels .count) (dayView bs i) i b (refusal-most bs) (omega arith))
+        either (refused-or-viewed DayRefusal (dayRefusal bs) (dayHeader bs .labels .count) (dayView bs i) i b (day-numbers bs))
       where
-        either : IsRefused mostDayRefusal b (dayReading bs i b) ⊎ ((dayRefusal bs ≡ 0) × (dayReading bs i b ≡ viewed (dayView bs i) b))
-            → IsRefused mostDayRefusal b (dayReading bs i b) ⊎ IsDayViewed bs i b (dayReading bs i b)
+        either : IsRefused DayRefusal b (dayReading bs i b) ⊎ ((dayRefusal bs ≡ 0) × (dayReading bs i b ≡ viewed (dayView bs i) b))
+            → IsRefused DayRefusal b (dayReading bs i b) ⊎ IsDayViewed bs i b (dayReading bs i b)
         either (inl r) = inl r
         either (inr v) = inr (record { jobs = all-jobs (v .0); shown = v .1 })
 
@@ -78,7 +86,7 @@ module _ (bs : List ℕ) where
     pub day-demand-2 : dayRefusal bs ≡ 0 → i < dayHeader bs .labels .count → length (dayView bs i) ≤ length b
         → dayReading bs i b ≡ record { answer = Viewed (length (dayView bs i)); buffer = dayView bs i ++ drop (length (dayView bs i)) b }
     unfolding dayReading
-    day-demand-2 = answered-viewed mostDayRefusal (dayRefusal bs) (dayHeader bs .labels .count) (dayView bs i) i b
+    day-demand-2 = answered-viewed DayRefusal (dayRefusal bs) (dayHeader bs .labels .count) (dayView bs i) i b
 
 -- ── demand 3: silent, on two calls ──
 
@@ -114,20 +122,19 @@ day-least : (bs : List ℕ) (i : ℕ) → dayRefusal bs ≡ 0 → recordsAt ≤ 
 unfolding dayView dayTurns
 day-least bs i none = views-least (λ l. flows l (dayLabel bs i)) bs _ _ _ _ (few-jobs bs none .0)
 
-day-bounded : (bs : List ℕ) (i : ℕ) (b : List ℕ) → Bounded mostDayRefusal (dayReading bs i b .answer)
+day-bounded : (bs : List ℕ) (i : ℕ) (b : List ℕ) → Bounded DayRefusal (dayReading bs i b .answer)
 unfolding dayReading
 day-bounded bs i b =
-    answered-bounded mostDayRefusal (dayRefusal bs) (dayHeader bs .labels .count) (dayView bs i) i b (refusal-most bs) (omega arith)
-    (day-least bs i)
+    answered-bounded DayRefusal (dayRefusal bs) (dayHeader bs .labels .count) (dayView bs i) i b (day-numbers bs) (day-least bs i)
 
 -- The number tells the answer.
 pub day-code-tells : (bs : List ℕ) (i : ℕ) (b : List ℕ) → told (codeOf (dayReading bs i b .answer)) ≡ dayReading bs i b .answer
-day-code-tells bs i b = told-bounded mostDayRefusal (omega arith) (dayReading bs i b .answer) (day-bounded bs i b)
+day-code-tells bs i b = told-bounded DayRefusal (λ n h. omega (arith, h .1)) (dayReading bs i b .answer) (day-bounded bs i b)
 
 -- Demand 3 on two calls of it.
 pub two-day-c-calls : (bs cs : List ℕ) (i : ℕ) (b d : List ℕ) (r q : ℕ) (out back : List ℕ)
     → r ≡ codeOf (dayReading bs i b .answer) → out ≡ dayReading bs i b .buffer
     → q ≡ codeOf (dayReading cs i d .answer) → back ≡ dayReading cs i d .buffer
-    → DayAlike bs cs i → length b ≡ length d → SameCalls mostDayRefusal b d r out q back
+    → DayAlike bs cs i → length b ≡ length d → SameCalls DayRefusal b d r out q back
 two-day-c-calls bs cs i b d r q out back er eo eq eb A h =
-    rw (er, eo, eq, eb) (same-calls mostDayRefusal b d (dayReading bs i b) (dayReading cs i d) (day-bounded bs i b) (day-demand-3 bs cs i b d A h))
+    rw (er, eo, eq, eb) (same-calls DayRefusal b d (dayReading bs i b) (dayReading cs i d) (day-bounded bs i b) (day-demand-3 bs cs i b d A h))

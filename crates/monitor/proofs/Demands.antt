@@ -24,8 +24,8 @@ use Rattle.view.proofs.Widths.{length-view}
 use Rattle.noninterference.specs.Alike.{Alike, SameReads}
 use Rattle.noninterference.proofs.Demand3.{demand-3}
 use Rattle.reading.specs.Answers.{reads, codeOf}
-use Rattle.monitor.specs.Calls.{mostRefusal, told, SameCalls}
-use Rattle.monitor.proofs.Answered.{IsRefused, viewed, refused-or-viewed, answered-viewed, Bounded, answered-bounded, told-bounded, same-calls}
+use Rattle.monitor.specs.Calls.{FileRefusal, told, SameCalls}
+use Rattle.monitor.proofs.Answered.{IsRefused, viewed, Numbers, refused-or-viewed, answered-viewed, Bounded, answered-bounded, told-bounded, same-calls}
 use Rattle.monitor.proofs.Charged.{paid, Charged, charged}
 
 -- ── demand 1: total ──
@@ -51,6 +51,10 @@ refusal-most : (bs : List ℕ) → refusal bs ≤ 7
 unfolding refusal
 refusal-most bs = lowest-most 0 (passes1 bs ∷ passes2 bs ∷ passes3 bs ∷ passes4 bs ∷ passes5 bs ∷ passes6 bs ∷ passes7 bs ∷ [])
 
+numbers : (bs : List ℕ) → Numbers FileRefusal (refusal bs)
+numbers bs =
+    record { checks = λ some. (some, omega (arith, refusal-most bs)); reader = (omega arith, omega arith); buffer = (omega arith, omega arith) }
+
 module _ (bs : List ℕ) (i : ℕ) (b : List ℕ) where
   run-charged : refusal bs ≡ 0 → Charged (fileProgram bs) (fileAccount bs) (startStore (inputSlots (fileInputs bs)))
   unfolding fileAccount
@@ -70,12 +74,12 @@ module _ (bs : List ℕ) (i : ℕ) (b : List ℕ) where
         shown = e;
       }
 
-  pub demand-1 : IsRefused mostRefusal b (reading bs i b) ⊎ IsViewed bs i b (reading bs i b)
+  pub demand-1 : IsRefused FileRefusal b (reading bs i b) ⊎ IsViewed bs i b (reading bs i b)
   unfolding reading
-  demand-1 = either (refused-or-viewed mostRefusal (refusal bs) (header bs .labels .count) (fileView bs i) i b (omega (arith, refusal-most bs)) (omega arith))
+  demand-1 = either (refused-or-viewed FileRefusal (refusal bs) (header bs .labels .count) (fileView bs i) i b (numbers bs))
     where
-      either : IsRefused mostRefusal b (reading bs i b) ⊎ ((refusal bs ≡ 0) × (reading bs i b ≡ viewed (fileView bs i) b))
-          → IsRefused mostRefusal b (reading bs i b) ⊎ IsViewed bs i b (reading bs i b)
+      either : IsRefused FileRefusal b (reading bs i b) ⊎ ((refusal bs ≡ 0) × (reading bs i b ≡ viewed (fileView bs i) b))
+          → IsRefused FileRefusal b (reading bs i b) ⊎ IsViewed bs i b (reading bs i b)
       either (inl r) = inl r
       either (inr v) = inr (is-viewed (reading bs i b) (v .0) (v .1))
 
@@ -85,7 +89,7 @@ module _ (bs : List ℕ) (i : ℕ) (b : List ℕ) where
   pub demand-2 : refusal bs ≡ 0 → i < header bs .labels .count → length (fileView bs i) ≤ length b
       → reading bs i b ≡ record { answer = Viewed (length (fileView bs i)); buffer = fileView bs i ++ drop (length (fileView bs i)) b }
   unfolding reading
-  demand-2 = answered-viewed mostRefusal (refusal bs) (header bs .labels .count) (fileView bs i) i b
+  demand-2 = answered-viewed FileRefusal (refusal bs) (header bs .labels .count) (fileView bs i) i b
 
 -- ── demand 3: silent, on two calls ──
 
@@ -100,20 +104,19 @@ view-least : (bs : List ℕ) (i : ℕ) → recordsAt ≤ length (fileView bs i)
 unfolding fileView viewLength
 view-least bs i = omega (arith, length-view (λ l. flows l (labelAt bs i)) (header bs .steps) (fileRun bs))
 
-bounded : (bs : List ℕ) (i : ℕ) (b : List ℕ) → Bounded mostRefusal (reading bs i b .answer)
+bounded : (bs : List ℕ) (i : ℕ) (b : List ℕ) → Bounded FileRefusal (reading bs i b .answer)
 unfolding reading
 bounded bs i b =
-    answered-bounded mostRefusal (refusal bs) (header bs .labels .count) (fileView bs i) i b (omega (arith, refusal-most bs)) (omega arith)
-    (λ _. view-least bs i)
+    answered-bounded FileRefusal (refusal bs) (header bs .labels .count) (fileView bs i) i b (numbers bs) (λ _. view-least bs i)
 
 -- The number tells the answer.
 pub code-tells : (bs : List ℕ) (i : ℕ) (b : List ℕ) → told (codeOf (reading bs i b .answer)) ≡ reading bs i b .answer
-code-tells bs i b = told-bounded mostRefusal (omega arith) (reading bs i b .answer) (bounded bs i b)
+code-tells bs i b = told-bounded FileRefusal (λ n h. omega (arith, h .1)) (reading bs i b .answer) (bounded bs i b)
 
 -- Demand 3 on two calls of it: r and q are what they answer, out and back what they leave in the buffers.
 pub two-c-calls : (bs cs : List ℕ) (i : ℕ) (b d : List ℕ) (r q : ℕ) (out back : List ℕ)
     → r ≡ codeOf (reading bs i b .answer) → out ≡ reading bs i b .buffer
     → q ≡ codeOf (reading cs i d .answer) → back ≡ reading cs i d .buffer
-    → Alike bs cs i → length b ≡ length d → SameCalls mostRefusal b d r out q back
+    → Alike bs cs i → length b ≡ length d → SameCalls FileRefusal b d r out q back
 two-c-calls bs cs i b d r q out back er eo eq eb A h =
-    rw (er, eo, eq, eb) (same-calls mostRefusal b d (reading bs i b) (reading cs i d) (bounded bs i b) (demand-3 bs cs i b d A h))
+    rw (er, eo, eq, eb) (same-calls FileRefusal b d (reading bs i b) (reading cs i d) (bounded bs i b) (demand-3 bs cs i b d A h))
