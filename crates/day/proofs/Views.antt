@@ -14,15 +14,14 @@ use Rattle.model.specs.Words.{labelIn}
 use Rattle.model.specs.declared.Finished.{Finished}
 use Rattle.machine.specs.Steps.{Finishes}
 use Rattle.store.specs.Slots.{words, slots}
-use Rattle.store.proofs.Places.{length-slots}
 use Rattle.operands.specs.Program.{count}
 use Rattle.view_fields.specs.Fields.{littleEndian}
 use Rattle.view_fields.specs.Writing.{over, numbers}
 use Rattle.view_fields.proofs.Buffers.{part, back, back-over}
-use Rattle.view.specs.Layout.{view, viewLength}
+use Rattle.view.specs.Layout.{view}
 use Rattle.view.specs.Writing.{finished}
 use Rattle.view.proofs.Widths.{length-view, view-finished}
-use Rattle.view.proofs.LengthField.{shown-most}
+use Rattle.view.proofs.LengthField.{view-most}
 use Rattle.file_sections.specs.Sections.{inputsOf}
 use Rattle.day_file.specs.declared.Header.{Header}
 use Rattle.day_file.specs.declared.Job.{Job}
@@ -54,11 +53,6 @@ length-skipped = refl
 pub skipped-parts : (b : List ℕ) → over (numbers 4 0 0 ++ (numbers 0 62 62 ++ replicate 50 0)) b ≡ over skippedView b
 unfolding skippedView numbers littleEndian
 skipped-parts b = refl
-
--- a view of a store of 256 places
-pub view-most : (Reads : Label → Bool) (l : List ℕ) → viewLength Reads (slots l) ≤ 9278
-unfolding viewLength
-view-most Reads l = let e = length-slots l in omega (arith, shown-most Reads (slots l))
 
 -- ── the jobs one by one ──
 

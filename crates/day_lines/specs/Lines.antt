@@ -19,6 +19,7 @@ unfoldable pub labelLines : List ℕ → ℕ → ℕ → List ℕ
 labelLines bs zero i = []
 labelLines bs (suc n) i = dayLines bs i ++ labelLines bs n (suc i)
 
--- what the program prints of a day
+-- What the program prints of a day. It goes out in parts, and the contracts are of these: the line of a refusal, or the
+-- lines of each label.
 unfoldable pub dayPrinted : List ℕ → List ℕ
 dayPrinted bs = cond (eqb (dayRefusal bs) 0) (labelLines bs (dayHeader bs .labels .count) 0) (refusedLine (dayRefusal bs))

@@ -10,13 +10,10 @@ use lib.Seq.{take-at}
 use Rattle.labels.specs.Order.{flows}
 use Rattle.labels.specs.declared.Label.{Label}
 use Rattle.model.specs.State.{Outcome}
-use Rattle.store.specs.Slots.{places, slots}
-use Rattle.store.proofs.Places.{length-slots}
 use Rattle.script_file.specs.Sections.{header, labelAt}
 use Rattle.script_file.specs.Program.{fileRun}
-use Rattle.view_fields.specs.Fields.{recordWidth}
 use Rattle.view_fields.specs.Writing.{over}
-use Rattle.view.specs.Layout.{recordsAt, recordsShown, viewLength, view}
+use Rattle.view.specs.Layout.{recordsShown, viewLength, view}
 use Rattle.view.specs.Reading.{fileView}
 use Rattle.view.proofs.Widths.{length-view}
 use Rattle.view.proofs.LengthField.{count-field, shown-most}
@@ -40,11 +37,6 @@ written-within v b out e = let f = ap length e ∙ length-append v (drop (length
 -- ── a view ──
 
 module _ (Reads : Label → Bool) where
-  -- a view of a store of 256 places
-  pub view-most : (l : List ℕ) → viewLength Reads (slots l) ≤ recordsAt + recordWidth * places
-  unfolding viewLength
-  view-most l = let e = length-slots l in omega (arith, shown-most Reads (slots l))
-
   module _ (s : ℕ) (o : Outcome) where
     long : length (view Reads s o) ≡ 62 + 36 * recordsShown Reads (o .store)
     unfolding viewLength

@@ -11,7 +11,9 @@ use Rattle.model.specs.State.{Store, Outcome, shown}
 use Rattle.model.specs.declared.Account.{Account}
 use Rattle.model.specs.Decoding.{byte, u16}
 use Rattle.model.specs.declared.Ending.{Ending}
-use Rattle.view_fields.specs.Fields.{littleEndian}
+use Rattle.store.specs.Slots.{places, slots}
+use Rattle.store.proofs.Places.{length-slots}
+use Rattle.view_fields.specs.Fields.{recordWidth, littleEndian}
 use Rattle.view.specs.Layout.{recordFields, recordsShown, recordsAt, counts, final, viewLength, view}
 use Rattle.view.proofs.Widths.{one-small, length-counts, length-view}
 
@@ -62,3 +64,8 @@ pub length-field-places : (Reads : Label → Bool) (s : ℕ) (o : Outcome) → l
     → u16 (view Reads s o) 10 ≡ length (view Reads s o)
 unfolding viewLength
 length-field-places Reads s o le = length-field Reads s o (omega (arith, shown-most Reads (o .store)))
+
+-- the longest view of a store of words, which has 256 places
+pub view-most : (Reads : Label → Bool) (l : List ℕ) → viewLength Reads (slots l) ≤ recordsAt + recordWidth * places
+unfolding viewLength
+view-most Reads l = let e = length-slots l in omega (arith, shown-most Reads (slots l))

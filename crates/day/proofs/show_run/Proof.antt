@@ -9,7 +9,8 @@ use Rattle.store.specs.Slots.{slots}
 use Rattle.view.specs.Layout.{view as viewOf}
 use Rattle.view.specs.Writing.{observes, finished}
 use Rattle.view.proofs.Widths.{length-view}
-use Rattle.day.proofs.Views.{shown-fits, shown-not, view-most}
+use Rattle.view.proofs.LengthField.{view-most}
+use Rattle.day.proofs.Views.{shown-fits, shown-not}
 use borrow.Author.Needs.{needs}
 use Rattle.day.proofs.show_run.Statement.{statement}
 use Rattle.day.proofs.show_run.Tie as tie

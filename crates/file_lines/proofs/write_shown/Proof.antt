@@ -9,7 +9,8 @@ use Rattle.store.specs.Slots.{slots}
 use Rattle.view.specs.Layout.{view as viewOf}
 use Rattle.view.specs.Writing.{observes, finished}
 use Rattle.view.proofs.Widths.{length-view}
-use Rattle.file_lines.proofs.Lengths.{taken-back, view-most}
+use Rattle.view.proofs.LengthField.{view-most}
+use Rattle.file_lines.proofs.Lengths.{taken-back}
 use borrow.Author.Needs.{needs}
 use Rattle.file_lines.proofs.write_shown.Statement.{statement}
 use Rattle.file_lines.proofs.write_shown.Tie as tie
