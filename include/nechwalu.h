@@ -1,7 +1,9 @@
 /*
- * Reading a script file for one of its labels, on x86-64. Link with libmonitor.a, which `rt staticlib monitor` writes.
+ * Reading a script file, or a day of up to 16 scripts, for one of its labels, on x86-64. Link with libmonitor.a, which
+ * `rt staticlib monitor` writes.
  *
- * docs/SCRIPTS.md describes files, faults and refusals, and under "A view" what is written to the buffer.
+ * docs/SCRIPTS.md describes script files (there: plain files), days, faults and refusals, and under "A view" what is
+ * written to the buffer.
  */
 #ifndef NECHWALU_H
 #define NECHWALU_H
@@ -9,21 +11,30 @@
 #include <stddef.h>
 #include <stdint.h>
 
-/* Refusals: the lowest number that applies is answered. */
-#define NECHWALU_REFUSED_SIZE 1    /* the file has under 16 bytes or over 65535 */
-#define NECHWALU_REFUSED_COUNT 2   /* a count in the header is outside its limits */
+/*
+ * Refusals. Of a script file the lowest number that applies is answered; of a day the first that applies in the order
+ * 1 2 3 4 10 6 7 8 9.
+ */
+#define NECHWALU_REFUSED_SIZE 1    /* the file has under 16 bytes (a day: under 20) or over 65535 */
+#define NECHWALU_REFUSED_COUNT 2   /* a count in the header is outside its limits (a day's jobs: 10) */
 #define NECHWALU_REFUSED_OFFSET 3  /* an offset is wrong, or the file's length */
 #define NECHWALU_REFUSED_LABELS 4  /* a label entry is malformed or cut, or the labels don't end at the records */
-#define NECHWALU_REFUSED_START 5   /* label 0, the start, doesn't flow to label 1, the clearance */
+#define NECHWALU_REFUSED_START 5   /* label 0, the start, doesn't flow to label 1, the clearance (a day: 10) */
 #define NECHWALU_REFUSED_RECORDS 6 /* an input record's kind or label index is out of range */
-#define NECHWALU_REFUSED_CODE 7    /* the code is malformed */
+#define NECHWALU_REFUSED_CODE 7    /* the code is malformed (a day: that of a job) */
 #define NECHWALU_REFUSED_READER 8  /* the file has no label with the index `reader` */
-#define NECHWALU_REFUSED_BUFFER 9  /* the buffer is shorter than the view */
+#define NECHWALU_REFUSED_BUFFER 9  /* the buffer is shorter than the view (a day: than all views together) */
+#define NECHWALU_REFUSED_JOBS 10   /* days only: no job or over 16, a job's field is out of range, or its starting label
+                                      doesn't flow to its clearance */
 
-/* Sizes in bytes. An answer below the shortest view is a refusal; a buffer of the longest view is always enough. */
+/*
+ * Sizes in bytes. An answer below the shortest view is a refusal. A buffer of the longest view is enough for every
+ * script file, one of the longest day for every day.
+ */
 #define NECHWALU_LARGEST_FILE 65535
 #define NECHWALU_SHORTEST_VIEW 62
 #define NECHWALU_LONGEST_VIEW 9278
+#define NECHWALU_LONGEST_DAY 148448 /* 16 views */
 #define NECHWALU_NUMBER_SIZE 2
 #define NECHWALU_LABEL_SIZE 16
 #define NECHWALU_VALUE_SIZE 18
@@ -31,7 +42,8 @@
 
 /*
  * Where the fields of a view start. All numbers, words and tables are little-endian, and they are not aligned: take them
- * from their bytes. Those up to NECHWALU_AT_LENGTH are numbers of 2 bytes.
+ * from their bytes. Those up to NECHWALU_AT_LENGTH are numbers of 2 bytes. Each view of a day is laid out so, from its
+ * own start; the next one starts as many bytes on as NECHWALU_AT_LENGTH says.
  */
 #define NECHWALU_AT_ENDING 0
 #define NECHWALU_AT_STEPS 2
@@ -64,6 +76,7 @@
 #define NECHWALU_ENDING_RESULT 1
 #define NECHWALU_ENDING_FAULT 2
 #define NECHWALU_ENDING_SPENT 3
+#define NECHWALU_ENDING_SKIPPED 4 /* days only: the job declares more steps than the day has left */
 
 /* Kinds of values, and what their words hold. */
 #define NECHWALU_VALUE_NONE 0      /* 0 and 0 */
@@ -92,6 +105,22 @@ extern "C" {
  * `file` and `buffer` must not overlap. There is no heap and no global state; a call takes less than 512 KiB of stack.
  */
 size_t nechwalu_read(const uint8_t *file, size_t file_length, size_t reader, uint8_t *buffer, size_t buffer_length);
+
+/*
+ * Runs the jobs of the day in `file`, one after another, and writes what its label with index `reader` may see of each
+ * to the start of `buffer`: a view for each job, in their order, end to end.
+ *
+ * Answers the number of a refusal, 1 to 4 or 6 to 10, and leaves `buffer` as it was; or the length of all views
+ * together, which is 62 or more, and leaves `buffer` behind them as it was. The views of a day have at most
+ * 16 * 9278 = 148448 bytes.
+ *
+ * A job that is skipped has a view too, the same for every reader: NECHWALU_SHORTEST_VIEW bytes with
+ * NECHWALU_ENDING_SKIPPED, 62 at NECHWALU_AT_RECORDS_START and at NECHWALU_AT_LENGTH, and 0 elsewhere.
+ *
+ * No file is both a script file and a day: what one of the two calls reads, the other refuses. What is allowed is as for
+ * nechwalu_read. There is no heap and no global state here either; a call takes less than 512 KiB of stack.
+ */
+size_t nechwalu_read_day(const uint8_t *file, size_t file_length, size_t reader, uint8_t *buffer, size_t buffer_length);
 
 #ifdef __cplusplus
 }

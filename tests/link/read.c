@@ -1,6 +1,7 @@
 /*
- * Prints the views of a script file as the proved program does, by the C call and the header's constants: read FILE, a
- * file that is not refused. Ends with 1 where an answer or a byte is not what the header says.
+ * Prints the views of a script file (read FILE) or of a day (read --day FILE) as the proved programs do, by the C calls
+ * and the header's constants. It must not be one that is refused. Ends with 1 where an answer or a byte is not what the
+ * header says.
  */
 #include "nechwalu.h"
 
@@ -8,7 +9,23 @@
 #include <stdlib.h>
 #include <string.h>
 
-enum { GUARD = 64, FILL = 0xA5 };
+enum { GUARD = 64, FILL = 0xA5, JOBS = 8, JOBS_OFFSET = 10, DAY_STEPS = 16, JOB_ZERO = 3 };
+
+/* What a script file and a day differ in. */
+struct kind {
+    size_t (*read)(const uint8_t *, size_t, size_t, uint8_t *, size_t);
+    size_t header, longest, last_refusal;
+};
+
+static const struct kind SCRIPT = {nechwalu_read, 16, NECHWALU_LONGEST_VIEW, NECHWALU_REFUSED_BUFFER};
+static const struct kind DAY = {nechwalu_read_day, 20, NECHWALU_LONGEST_DAY, NECHWALU_REFUSED_JOBS};
+
+/* A file, or what is tried as one. */
+struct input {
+    const struct kind *kind;
+    const uint8_t *bytes;
+    size_t length;
+};
 
 /* The printed fields, where the header says they are. */
 struct field {
@@ -39,27 +56,14 @@ static const struct field RECORD[] = {
     VALUE(NECHWALU_RECORD_AT_VALUE),
 };
 
-static uint8_t memory[GUARD + NECHWALU_LONGEST_VIEW + GUARD];
+/* A buffer for the longest views, and guard bytes around it. */
+static uint8_t memory[GUARD + NECHWALU_LONGEST_DAY + GUARD];
 static uint8_t *const buffer = memory + GUARD;
 
 static void fail(const char *what)
 {
     fprintf(stderr, "read: %s\n", what);
     exit(1);
-}
-
-/* Reads into a buffer of `room` bytes. Nothing but the view may be written, neither behind it nor around the buffer. */
-static size_t read_with(const uint8_t *file, size_t length, size_t reader, size_t room)
-{
-    memset(memory, FILL, sizeof memory);
-    size_t answer = nechwalu_read(file, length, reader, buffer, room);
-    size_t written = answer < NECHWALU_SHORTEST_VIEW ? 0 : answer;
-    if (answer < NECHWALU_REFUSED_SIZE || (written == 0 && answer > NECHWALU_REFUSED_BUFFER) || written > room)
-        fail("an answer is neither a refusal's number nor a length that fits");
-    for (size_t i = 0; i < sizeof memory; i++)
-        if ((i < GUARD || i >= GUARD + written) && memory[i] != FILL)
-            fail("a byte outside the view is written");
-    return answer;
 }
 
 static void expect(size_t answer, size_t wanted, const char *what)
@@ -75,6 +79,46 @@ static size_t number(const uint8_t *bytes)
     return bytes[0] + 256u * bytes[1];
 }
 
+/* Reads into a buffer of `room` bytes. Nothing but views may be written, neither behind them nor around the buffer. */
+static size_t read_with(struct input input, size_t reader, size_t room)
+{
+    memset(memory, FILL, sizeof memory);
+    size_t answer = input.kind->read(input.bytes, input.length, reader, buffer, room);
+    size_t written = answer < NECHWALU_SHORTEST_VIEW ? 0 : answer;
+    if (answer < NECHWALU_REFUSED_SIZE || (written == 0 && answer > input.kind->last_refusal) || written > room)
+        fail("an answer is neither a refusal's number nor a length that fits");
+    for (size_t i = 0; i < sizeof memory; i++)
+        if ((i < GUARD || i >= GUARD + written) && memory[i] != FILL)
+            fail("a byte outside the views is written");
+    return answer;
+}
+
+static size_t read_without_buffer(struct input input, size_t reader)
+{
+    return input.kind->read(input.bytes, input.length, reader, NULL, 0);
+}
+
+/* Its first `length` bytes, or it and what stands behind it. */
+static struct input cut(struct input input, size_t length)
+{
+    input.length = length;
+    return input;
+}
+
+/* The length of the view that starts here, of which `left` bytes are there. */
+static size_t view_length(const uint8_t *view, size_t left)
+{
+    if (left < NECHWALU_SHORTEST_VIEW)
+        fail("a view is cut");
+    size_t length = number(view + NECHWALU_AT_LENGTH);
+    size_t records = number(view + NECHWALU_AT_RECORDS_SHOWN);
+    expect(number(view + NECHWALU_AT_RECORDS_START), NECHWALU_AT_RECORDS, "where a view's records start");
+    expect(length, NECHWALU_SHORTEST_VIEW + records * NECHWALU_RECORD_SIZE, "a view's own length");
+    if (length > left)
+        fail("a view is longer than what is written");
+    return length;
+}
+
 static void print_fields(const uint8_t *bytes, const struct field *fields, size_t count, const char *before)
 {
     for (size_t i = 0; i < count; i++, before = " ") {
@@ -84,60 +128,127 @@ static void print_fields(const uint8_t *bytes, const struct field *fields, size_
     }
 }
 
-static void print_view(void)
+static void print_view(const uint8_t *view)
 {
-    const uint8_t *record = buffer + NECHWALU_AT_RECORDS;
-    print_fields(buffer, FRONT, sizeof FRONT / sizeof *FRONT, "");
-    for (size_t left = number(buffer + NECHWALU_AT_RECORDS_SHOWN); left > 0; left--, record += NECHWALU_RECORD_SIZE)
+    const uint8_t *record = view + NECHWALU_AT_RECORDS;
+    print_fields(view, FRONT, sizeof FRONT / sizeof *FRONT, "");
+    for (size_t left = number(view + NECHWALU_AT_RECORDS_SHOWN); left > 0; left--, record += NECHWALU_RECORD_SIZE)
         print_fields(record, RECORD, sizeof RECORD / sizeof *RECORD, " ");
     printf("\n");
 }
 
-/* The view for one label, into a long buffer, one that just fits and one that is too short. */
-static void try_reader(const uint8_t *file, size_t length, size_t reader, size_t answer)
+/* How many views a file has: a day has one for each job. */
+static size_t views_of(struct input input)
 {
-    uint8_t view[NECHWALU_LONGEST_VIEW];
-    memcpy(view, buffer, answer);
-    expect(number(buffer + NECHWALU_AT_LENGTH), answer, "the view's own length");
-    expect(read_with(file, length, reader, answer), answer, "a buffer that just fits");
-    if (memcmp(view, buffer, answer) != 0)
+    return input.kind == &DAY ? number(input.bytes + JOBS) : 1;
+}
+
+/* Prints the views in the buffer, `length` bytes, going by their own lengths; gives the length of the last. */
+static size_t print_views(struct input input, size_t length)
+{
+    size_t count = 0, last = 0;
+    for (size_t at = 0; at < length; at += last, count++) {
+        last = view_length(buffer + at, length - at);
+        print_view(buffer + at);
+    }
+    expect(count, views_of(input), "the number of views");
+    return last;
+}
+
+/* The views for one label, into a long buffer, which they are in, one that just fits and some that are too short. */
+static void try_reader(struct input input, size_t reader, size_t answer)
+{
+    static uint8_t views[NECHWALU_LONGEST_DAY];
+    memcpy(views, buffer, answer);
+    expect(read_with(input, reader, answer), answer, "a buffer that just fits");
+    if (memcmp(views, buffer, answer) != 0)
         fail("a second read gives another view");
-    print_view();
-    expect(read_with(file, length, reader, answer - 1), NECHWALU_REFUSED_BUFFER, "a buffer that is a byte too short");
-    expect(read_with(file, length, reader, 0), NECHWALU_REFUSED_BUFFER, "an empty buffer");
-    expect(nechwalu_read(file, length, reader, NULL, 0), NECHWALU_REFUSED_BUFFER, "no buffer");
+    size_t last = print_views(input, answer);
+    expect(read_with(input, reader, answer - 1), NECHWALU_REFUSED_BUFFER, "a buffer that is a byte too short");
+    expect(read_with(input, reader, answer - last), NECHWALU_REFUSED_BUFFER, "a buffer without room for the last view");
+    expect(read_with(input, reader, 0), NECHWALU_REFUSED_BUFFER, "an empty buffer");
+    expect(read_without_buffer(input, reader), NECHWALU_REFUSED_BUFFER, "no buffer");
+}
+
+static void try_readers(struct input input)
+{
+    const size_t room = input.kind->longest;
+    size_t reader = 0, answer;
+    for (; (answer = read_with(input, reader, room)) >= NECHWALU_SHORTEST_VIEW; reader++)
+        try_reader(input, reader, answer);
+    expect(answer, NECHWALU_REFUSED_READER, "the index behind the last label");
+    expect(reader, number(input.bytes), "the number of labels");
+
+    expect(read_with(input, 99, room), NECHWALU_REFUSED_READER, "index 99");
+    for (size_t high = 32; high != 0; high *= 2)
+        expect(read_with(input, high, room), NECHWALU_REFUSED_READER, "an index that is too high");
+    expect(read_with(input, SIZE_MAX, room), NECHWALU_REFUSED_READER, "the highest index");
+    expect(read_without_buffer(input, 99), NECHWALU_REFUSED_READER, "index 99 and no buffer");
+}
+
+/* Files that are too short or too long, and a file of the other kind. */
+static void try_files(struct input input)
+{
+    const size_t room = input.kind->longest;
+    const struct input none = {input.kind, NULL, 0};
+    const struct input other = {input.kind == &DAY ? &SCRIPT : &DAY, input.bytes, input.length};
+    expect(read_with(none, 0, room), NECHWALU_REFUSED_SIZE, "no file");
+    expect(read_without_buffer(none, 0), NECHWALU_REFUSED_SIZE, "neither file nor buffer");
+    expect(read_with(cut(input, input.kind->header - 1), 0, room), NECHWALU_REFUSED_SIZE, "a file cut in its header");
+    expect(read_with(cut(input, input.kind->header), 0, room), NECHWALU_REFUSED_OFFSET, "a file cut to its header");
+    expect(read_with(cut(input, input.length - 1), 0, room), NECHWALU_REFUSED_OFFSET, "a file that is a byte too short");
+    expect(read_with(cut(input, NECHWALU_LARGEST_FILE), 0, room), NECHWALU_REFUSED_OFFSET, "a file with more behind it");
+    expect(read_with(cut(input, NECHWALU_LARGEST_FILE + 1), 0, room), NECHWALU_REFUSED_SIZE, "a file that is too long");
+    expect(read_with(other, 0, other.kind->longest), NECHWALU_REFUSED_OFFSET, "the call for the other kind");
+}
+
+/* The day with a byte of its first job wrong, and without steps, so that every job is skipped. */
+static void try_jobs(struct input input)
+{
+    static uint8_t changed[NECHWALU_LARGEST_FILE];
+    const struct input day = {input.kind, changed, input.length};
+    size_t zero = number(input.bytes + JOBS_OFFSET) + JOB_ZERO, jobs = views_of(input);
+    memcpy(changed, input.bytes, input.length);
+    changed[zero] = 1;
+    expect(read_with(day, 0, day.kind->longest), NECHWALU_REFUSED_JOBS, "a job whose zero byte is 1");
+    expect(read_with(day, 99, 0), NECHWALU_REFUSED_JOBS, "that job, index 99 and an empty buffer");
+    changed[zero] = 0;
+    memset(changed + DAY_STEPS, 0, 4);
+    for (size_t reader = 0; reader < number(changed); reader++) {
+        expect(read_with(day, reader, day.kind->longest), jobs * NECHWALU_SHORTEST_VIEW, "a day without steps");
+        for (size_t job = 0; job < jobs; job++)
+            expect(number(buffer + job * NECHWALU_SHORTEST_VIEW + NECHWALU_AT_ENDING), NECHWALU_ENDING_SKIPPED,
+                   "the ending of a job in a day without steps");
+    }
+}
+
+/* A whole file, with zeros behind it up to one byte more than the largest has. */
+static struct input load(const struct kind *kind, const char *name)
+{
+    static uint8_t bytes[NECHWALU_LARGEST_FILE + 1];
+    FILE *file = fopen(name, "rb");
+    if (file == NULL)
+        fail("the file can't be opened");
+    size_t length = fread(bytes, 1, sizeof bytes, file);
+    if (ferror(file) || fclose(file) != 0)
+        fail("the file can't be read");
+    return (struct input){kind, bytes, length};
 }
 
 int main(int count, char **words)
 {
-    static uint8_t file[NECHWALU_LARGEST_FILE + 1], copy[NECHWALU_LARGEST_FILE + 1];
-    FILE *input = count == 2 ? fopen(words[1], "rb") : NULL;
-    if (input == NULL)
-        fail("usage: read FILE");
-    size_t length = fread(file, 1, sizeof file, input);
-    if (ferror(input) || fclose(input) != 0)
-        fail("the file can't be read");
-    memcpy(copy, file, sizeof file);
+    static uint8_t copy[NECHWALU_LARGEST_FILE + 1];
+    const struct kind *kind = count == 3 && strcmp(words[1], "--day") == 0 ? &DAY : &SCRIPT;
+    if (count != (kind == &DAY ? 3 : 2))
+        fail("usage: read [--day] FILE");
+    struct input input = load(kind, words[count - 1]);
+    memcpy(copy, input.bytes, sizeof copy);
 
-    const size_t room = NECHWALU_LONGEST_VIEW;
-    size_t reader = 0, answer;
-    for (; (answer = read_with(file, length, reader, room)) >= NECHWALU_SHORTEST_VIEW; reader++)
-        try_reader(file, length, reader, answer);
-    expect(answer, NECHWALU_REFUSED_READER, "the index behind the last label");
-    expect(reader, number(file), "the number of labels");
-
-    expect(read_with(file, length, 99, room), NECHWALU_REFUSED_READER, "index 99");
-    for (size_t high = 32; high != 0; high *= 2)
-        expect(read_with(file, length, high, room), NECHWALU_REFUSED_READER, "an index that is too high");
-    expect(read_with(file, length, SIZE_MAX, room), NECHWALU_REFUSED_READER, "the highest index");
-    expect(nechwalu_read(file, length, 99, NULL, 0), NECHWALU_REFUSED_READER, "index 99 and no buffer");
-    expect(read_with(NULL, 0, 0, room), NECHWALU_REFUSED_SIZE, "no file");
-    expect(nechwalu_read(NULL, 0, 0, NULL, 0), NECHWALU_REFUSED_SIZE, "neither file nor buffer");
-    expect(read_with(file, 15, 0, room), NECHWALU_REFUSED_SIZE, "a file that is cut in its header");
-    expect(read_with(file, length - 1, 0, room), NECHWALU_REFUSED_OFFSET, "a file that is a byte too short");
-    expect(read_with(file, NECHWALU_LARGEST_FILE, 0, room), NECHWALU_REFUSED_OFFSET, "a file with more behind it");
-    expect(read_with(file, NECHWALU_LARGEST_FILE + 1, 0, room), NECHWALU_REFUSED_SIZE, "a file that is too long");
-    if (memcmp(file, copy, sizeof file) != 0)
+    try_readers(input);
+    try_files(input);
+    if (kind == &DAY)
+        try_jobs(input);
+    if (memcmp(input.bytes, copy, sizeof copy) != 0)
         fail("the file is written");
     return fflush(stdout) == 0 ? 0 : 1;
 }
