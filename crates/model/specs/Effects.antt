@@ -61,12 +61,13 @@ raised P l a = withLabel (P .join (a .label) l) a
 abbrev pub holding : Kind → Label → Contents → Slot
 holding h l x = Full (record { kind = h; label = l; contents = x })
 
--- the label is raised already: "OPEN of a sealed fault raises, then throws that fault"
+-- the label is raised already: "OPEN of a sealed fault raises, then throws that fault", and "READ of a reference that holds
+-- a fault raises, then throws it, as OPEN does"
 unfoldable pub yield : Control → Control → Account → Store → Contents → Next
 yield c r a σ (Holds d) = go (push d r) a σ
 yield c r a σ (Fault code n) = fail code n c a σ
 
--- An empty place gives fault 33 here and below; no run of an accepted file has a handle to one.
+-- An empty place gives fault 33 here and below; no run of an accepted file or day has a handle to one.
 unfoldable pub openSlot : Program → Control → Control → Account → Store → Slot → Next
 openSlot P c r a σ Empty = fail 33 0 c a σ
 openSlot P c r a σ (Full x) = checkRaise P (x .label) c a σ (yield c r (raised P (x .label) a) σ (x .contents))
