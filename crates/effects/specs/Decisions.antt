@@ -5,7 +5,7 @@ use mathlib.Core.List.{List}
 use Prim.Native.Nat.{ℕ, _+_}
 use lib.Dec.{leb, ltb, eqb}
 use Rattle.labels.specs.declared.Label.{Label}
-use Rattle.labels.specs.Order.{flows, join, meet}
+use Rattle.labels.specs.Order.{flowTest, flows, join, meet}
 use Rattle.model.specs.State.{Store, at}
 use Rattle.model.specs.declared.Account.{Account}
 use Rattle.model.specs.Effects.{contentsOf}
@@ -37,49 +37,38 @@ use Rattle.operands.specs.declared.LabelTask.{LabelTask}
 use Rattle.operands.specs.declared.LabelTask.the-variants.{Pair as OnPair, Label as ForLabel, Handle as ForHandle}
 use Rattle.operands.specs.declared.Task.{Task}
 use Rattle.operands.specs.declared.Task.the-variants.{Do, Numbers, Labels}
-use Rattle.operands.specs.Tasks.{decided, faulty, onNumbers, labelsOf}
+use Rattle.operands.specs.Tasks.{decided, thrown, faulty, onNumbers, labelsOf}
 
 -- ── the checks ──
 
--- 23 and 24, as the code of the fault; 0 is none
-unfoldable pub targetOf : Label → Label → Label → ℕ
-targetOf label clearance l = cond (flows label l) (cond (flows l clearance) 0 24) 23
+-- d where a flow test answers 0; else a fault, with the answer as its number
+abbrev pub passingOf : ℕ → ℕ → Decision → Decision
+passingOf answer code d = cond (eqb answer 0) d (thrown code answer)
 
-abbrev pub risesOf : Label → Label → Label → Bool
-risesOf label clearance l = flows (join label l) clearance
+-- the current label flows to l, and l to the clearance
+abbrev pub betweenOf : Label → Label → Label → ℕ → ℕ → Decision → Decision
+betweenOf label clearance l first second d = passingOf (flowTest label l) first (passingOf (flowTest l clearance) second d)
 
--- what follows a fault's code: 0 lets it pass
-abbrev pub passing : ℕ → Decision → Decision
-passing code d = cond (eqb code 0) d (faulty code)
+-- the raised label flows to the clearance
+abbrev pub risingOf : Label → Label → Label → Decision → Decision
+risingOf label clearance l d = passingOf (flowTest (join label l) clearance) 24 d
 
 -- ── on a label ──
 
-abbrev pub raiseOf : Label → Label → Label → Decision
-raiseOf label clearance l = cond (risesOf label clearance l) (decided 1 Raise) (faulty 24)
+abbrev pub makeOf : Account → Kind → Decision
+makeOf a h = cond (ltb (a .next) (a .limit)) (decided 2 (Make h)) (faulty 26)
 
-abbrev pub lowerOf : Label → Label → Label → Decision
-lowerOf label clearance l = cond (flows label l) (cond (flows l clearance) (decided 1 Lower) (faulty 25)) (faulty 25)
-
-abbrev pub makeOf : Account → Kind → Label → Decision
-makeOf a h l = passing (targetOf (a .label) (a .clearance) l) (cond (ltb (a .next) (a .limit)) (decided 2 (Make h)) (faulty 26))
-
--- BLOCK's checks, as the code of the fault; 0 is none
-abbrev pub roomOf : Account → Label → ℕ → ℕ → ℕ
-roomOf a b n k =
-    cond (eqb (targetOf (a .label) (a .clearance) b) 0)
-    (cond (ltb (a .depth) 8)
-    (cond (leb n (a .steps)) (cond (leb (a .next + 1 + k) (a .limit)) 0 26) 27)
-    28)
-    (targetOf (a .label) (a .clearance) b)
-
-abbrev pub enterOf : Account → Label → ℕ → ℕ → ℕ → Decision
-enterOf a b t n k = passing (roomOf a b n k) (decided 1 (Block t n k))
+abbrev pub enterOf : Account → ℕ → ℕ → ℕ → Decision
+enterOf a t n k =
+    cond (ltb (a .depth) 8)
+    (cond (leb n (a .steps)) (cond (leb (a .next + 1 + k) (a .limit)) (decided 1 (Block t n k)) (faulty 26)) (faulty 27))
+    (faulty 28)
 
 abbrev pub withLabelOf : OnLabel → Label → Account → Decision
-withLabelOf Raises l a = raiseOf (a .label) (a .clearance) l
-withLabelOf Lowers l a = lowerOf (a .label) (a .clearance) l
-withLabelOf (Makes h) l a = makeOf a h l
-withLabelOf (Blocks t n k) l a = enterOf a l t n k
+withLabelOf Raises l a = risingOf (a .label) (a .clearance) l (decided 1 Raise)
+withLabelOf Lowers l a = betweenOf (a .label) (a .clearance) l 25 25 (decided 1 Lower)
+withLabelOf (Makes h) l a = betweenOf (a .label) (a .clearance) l 23 24 (makeOf a h)
+withLabelOf (Blocks t n k) l a = betweenOf (a .label) (a .clearance) l 23 24 (enterOf a t n k)
 
 abbrev pub onLabel : OnLabel → Datum → Account → Decision
 onLabel f (Number n) a = faulty 22
@@ -94,12 +83,12 @@ isKind Sealed Reference = false
 isKind Reference Sealed = false
 isKind Reference Reference = true
 
-abbrev pub yieldOf : ℕ → Contents → Decision
-yieldOf p (Holds d) = decided 1 (Open p)
-yieldOf p (Faulty code n) = decided 0 (Fault (ByRecord p) code n)
+abbrev pub yieldedOf : ℕ → Contents → Decision
+yieldedOf p (Holds d) = decided 1 (Open p)
+yieldedOf p (Faulty code n) = decided 0 (Fault (ByRecord p) code n)
 
 abbrev pub openedOf : Label → Label → ℕ → Record → Decision
-openedOf label clearance p r = cond (risesOf label clearance (r .label)) (yieldOf p (r .contents)) (faulty 24)
+openedOf label clearance p r = risingOf label clearance (r .label) (yieldedOf p (r .contents))
 
 abbrev pub openOf : Label → Label → ℕ → Slot → Decision
 openOf label clearance p Empty = faulty 33
@@ -110,7 +99,7 @@ labelledOf p Empty = faulty 33
 labelledOf p (Full r) = decided 1 (GivesLabel (OfRecord p))
 
 abbrev pub rewriteOf : Label → Label → ℕ → Record → Decision
-rewriteOf label clearance p r = passing (targetOf label clearance (r .label)) (decided 2 (Write p))
+rewriteOf label clearance p r = betweenOf label clearance (r .label) 23 24 (decided 2 (Write p))
 
 abbrev pub writeOf : Label → Label → ℕ → Slot → Decision
 writeOf label clearance p Empty = faulty 33

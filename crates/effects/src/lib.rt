@@ -21,99 +21,60 @@ ghost use lib.ListN.{length, set};
 ghost use Rattle.model.specs.State.{at};
 ghost use Rattle.model.specs.Effects.{holding};
 ghost use Rattle.store.specs.Slots.{words, slots};
-ghost use Rattle.effects.specs.Decisions.{targetOf, risesOf, raiseOf, lowerOf, makeOf, roomOf, enterOf, withLabelOf, onLabel, isKind, openedOf, openOf, labelledOf, rewriteOf, writeOf, withHandle, onHandle, onLabels, labelFrom, pairedOf, raisedBy, sealedOf};
+ghost use Rattle.effects.specs.Decisions.{passingOf, betweenOf, risingOf, makeOf, enterOf, withLabelOf, onLabel, isKind, yieldedOf, openedOf, openOf, labelledOf, rewriteOf, writeOf, withHandle, onHandle, onLabels, labelFrom, pairedOf, raisedBy, sealedOf};
 
 // ---- the checks
 
-// 23 and 24, as the code of the fault; 0 is none.
-fn target(label: Label, clearance: Label, l: Label) -> u32
-    ensures { λ r. ⌜ r ≡ targetOf label clearance l ⌝ }
+// What follows where a flow test answers 0; else a fault, with the answer as its number.
+fn passing(answer: u32, code: u32, d: Decision) -> Decision
+    ensures { λ r. ⌜ r ≡ passingOf answer code d ⌝ }
 {
-    if !labels::flows(label, l) {
-        return 23;
+    if answer != 0 {
+        return operands::thrown(code, answer);
     }
-    if !labels::flows(l, clearance) {
-        return 24;
-    }
-    0
+    d
+}
+
+// 23 and 24, or 25 twice: the current label flows to l, and l to the clearance. The codes are those of the two tests.
+fn between(label: Label, clearance: Label, l: Label, first: u32, second: u32, d: Decision) -> Decision
+    ensures { λ r. ⌜ r ≡ betweenOf label clearance l first second d ⌝ }
+{
+    let above = passing(labels::flow_test(l, clearance), second, d);
+    passing(labels::flow_test(label, l), first, above)
 }
 
 // 24 of RAISE, OPEN and READ: the raised label flows to the clearance.
-fn rises(label: Label, clearance: Label, l: Label) -> bool
-    ensures { λ r. ⌜ r ≡ risesOf label clearance l ⌝ }
+fn rising(label: Label, clearance: Label, l: Label, d: Decision) -> Decision
+    ensures { λ r. ⌜ r ≡ risingOf label clearance l d ⌝ }
 {
-    labels::flows(labels::join(label, l), clearance)
+    passing(labels::flow_test(labels::join(label, l), clearance), 24, d)
 }
 
 // ---- on a label
 
-fn raise(label: Label, clearance: Label, l: Label) -> Decision
-    ensures { λ r. ⌜ r ≡ raiseOf label clearance l ⌝ }
+// SEAL, NEW, once the label is checked.
+fn make(a: Account, kind: Kind) -> Decision
+    ensures { λ r. ⌜ r ≡ makeOf a kind ⌝ }
 {
-    if !rises(label, clearance, l) {
-        return operands::faulty(24);
-    }
-    operands::decides(1, Effect::Raise)
-}
-
-fn lower(label: Label, clearance: Label, l: Label) -> Decision
-    ensures { λ r. ⌜ r ≡ lowerOf label clearance l ⌝ }
-{
-    if !labels::flows(label, l) {
-        return operands::faulty(25);
-    }
-    if !labels::flows(l, clearance) {
-        return operands::faulty(25);
-    }
-    operands::decides(1, Effect::Lower)
-}
-
-// SEAL, NEW.
-fn make(a: Account, kind: Kind, l: Label) -> Decision
-    ensures { λ r. ⌜ r ≡ makeOf a kind l ⌝ }
-{
-    let label = a.label;
-    let clearance = a.clearance;
-    let fault = target(label, clearance, l);
-    if fault != 0 {
-        return operands::faulty(fault);
-    }
     if a.limit <= a.next {
         return operands::faulty(26);
     }
     operands::decides(2, Effect::Make(kind))
 }
 
-// BLOCK's checks on its bound, n and k, as the code of the fault; 0 is none.
-fn room(a: Account, b: Label, n: usize, k: usize) -> u32
+// BLOCK, once its bound is checked.
+fn enter(a: Account, t: usize, n: usize, k: usize) -> Decision
     requires { ⌜ a .next ≤ a .limit ⌝ }
-    ensures { λ r. ⌜ r ≡ roomOf a b n k ⌝ }
+    ensures { λ r. ⌜ r ≡ enterOf a t n k ⌝ }
 {
-    let label = a.label;
-    let clearance = a.clearance;
-    let fault = target(label, clearance, b);
-    if fault != 0 {
-        return fault;
-    }
     if 8 <= a.depth {
-        return 28;
+        return operands::faulty(28);
     }
     if a.steps < n {
-        return 27;
+        return operands::faulty(27);
     }
     if a.limit - a.next <= k {
-        return 26;
-    }
-    0
-}
-
-fn enter(a: Account, b: Label, t: usize, n: usize, k: usize) -> Decision
-    requires { ⌜ a .next ≤ a .limit ⌝ }
-    ensures { λ r. ⌜ r ≡ enterOf a b t n k ⌝ }
-{
-    let fault = room(a, b, n, k);
-    if fault != 0 {
-        return operands::faulty(fault);
+        return operands::faulty(26);
     }
     operands::decides(1, Effect::Block(t, n, k))
 }
@@ -125,10 +86,10 @@ fn with_label(f: OnLabel, l: Label, a: Account) -> Decision
     let label = a.label;
     let clearance = a.clearance;
     match f {
-        OnLabel::Raise => raise(label, clearance, l),
-        OnLabel::Lower => lower(label, clearance, l),
-        OnLabel::Make(kind) => make(a, kind, l),
-        OnLabel::Block(t, n, k) => enter(a, l, t, n, k),
+        OnLabel::Raise => rising(label, clearance, l, operands::decides(1, Effect::Raise)),
+        OnLabel::Lower => between(label, clearance, l, 25, 25, operands::decides(1, Effect::Lower)),
+        OnLabel::Make(kind) => between(label, clearance, l, 23, 24, make(a, kind)),
+        OnLabel::Block(t, n, k) => between(label, clearance, l, 23, 24, enter(a, t, n, k)),
     }
 }
 
@@ -161,20 +122,24 @@ fn is_kind(k: Kind, kind: Kind) -> bool
     }
 }
 
-fn opened(label: Label, clearance: Label, p: usize, r: Record) -> Decision
-    ensures { λ e. ⌜ e ≡ openedOf label clearance p r ⌝ }
+// What opening contents comes to, once the label is checked: their value, or the fault that they are.
+fn yielded(p: usize, contents: Contents) -> Decision
+    ensures { λ r. ⌜ r ≡ yieldedOf p contents ⌝ }
 {
-    let l = r.label;
-    if !rises(label, clearance, l) {
-        return operands::faulty(24);
-    }
-    let contents = r.contents;
     match contents {
         Contents::Value(_) => operands::decides(1, Effect::Open(p)),
         Contents::Fault(code, number) => {
             operands::decides(0, Effect::Fault(By::Record(p), code, number))
         }
     }
+}
+
+fn opened(label: Label, clearance: Label, p: usize, r: Record) -> Decision
+    ensures { λ e. ⌜ e ≡ openedOf label clearance p r ⌝ }
+{
+    let l = r.label;
+    let contents = r.contents;
+    rising(label, clearance, l, yielded(p, contents))
 }
 
 // OPEN, READ.
@@ -203,11 +168,7 @@ fn rewrite(label: Label, clearance: Label, p: usize, r: Record) -> Decision
     ensures { λ e. ⌜ e ≡ rewriteOf label clearance p r ⌝ }
 {
     let l = r.label;
-    let fault = target(label, clearance, l);
-    if fault != 0 {
-        return operands::faulty(fault);
-    }
-    operands::decides(2, Effect::Write(p))
+    between(label, clearance, l, 23, 24, operands::decides(2, Effect::Write(p)))
 }
 
 // WRITE.

@@ -1,9 +1,9 @@
 -- P1 to P8 hold, by computation. Assumes nothing.
 use lib.Dec.{T}
 use Rattle.formulas.specs.Formula.{holds, table, implies}
-use Rattle.labels.specs.Order.{flows, join}
+use Rattle.labels.specs.Order.{flowTest, join}
 use Rattle.labels.specs.Cases.{allHold, labelCases}
 
 pub label-cases : T (allHold labelCases)
-unfolding holds table implies flows join
+unfolding holds table implies flowTest join
 label-cases = tt

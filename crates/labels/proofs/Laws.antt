@@ -1,36 +1,33 @@
 -- The laws of labels: `flows` is a partial order, join its least upper and meet its greatest lower bound. Assumes nothing.
-use mathlib.Core.Path.{_≡_, refl}
+use mathlib.Core.Path.{_≡_, refl, sym, subst}
+use mathlib.Core.Bool.{Bool}
 use mathlib.Core.Logic.{_↔_}
 use lib.Dec.{T}
-use Rattle.formulas.specs.Formula.{implies}
 use Rattle.formulas.proofs.Implication.{implies-antisym}
 use Rattle.formulas.proofs.Lattice.{Joins, joins-below, by-parts, tables, tables-back}
-use Rattle.formulas.proofs.Tests.{T-left, T-right}
 use Rattle.labels.specs.Order.{flows, join, meet}
 use Rattle.labels.specs.declared.Label.{Label}
+use Rattle.labels.proofs.Halves.{flows-halves, flows-secrecy, flows-integrity}
 
 -- a preorder, with join as least upper bound
 pub labels : Joins Label flows join
-unfolding flows join
-labels = by-parts (λ (l : Label). l .secrecy) (λ (l : Label). l .integrity) join tables-back tables (λ a b. refl) (λ a b. refl)
+unfolding join
+labels =
+    subst (λ (le : Label → Label → Bool). Joins Label le join) (λ k a b. sym (flows-halves a b) k)
+    (by-parts (λ (l : Label). l .secrecy) (λ (l : Label). l .integrity) join tables-back tables (λ a b. refl) (λ a b. refl))
 
 -- the same read backwards, with meet as greatest lower bound
 pub labels-back : Joins Label (λ a b. flows b a) meet
-unfolding flows meet
-labels-back = by-parts (λ (l : Label). l .secrecy) (λ (l : Label). l .integrity) meet tables tables-back (λ a b. refl) (λ a b. refl)
+unfolding meet
+labels-back =
+    subst (λ (le : Label → Label → Bool). Joins Label le meet) (λ k a b. sym (flows-halves b a) k)
+    (by-parts (λ (l : Label). l .secrecy) (λ (l : Label). l .integrity) meet tables tables-back (λ a b. refl) (λ a b. refl))
 
 pub flows-antisym : (a b : Label) → T (flows a b) → T (flows b a) → a ≡ b
-unfolding flows
 flows-antisym a b p q =
     λ k. record {
-      secrecy =
-          implies-antisym (a .secrecy) (b .secrecy)
-          (T-left (implies (a .secrecy) (b .secrecy)) (implies (b .integrity) (a .integrity)) q)
-          (T-left (implies (b .secrecy) (a .secrecy)) (implies (a .integrity) (b .integrity)) p) k;
-      integrity =
-          implies-antisym (a .integrity) (b .integrity)
-          (T-right (implies (b .secrecy) (a .secrecy)) (implies (a .integrity) (b .integrity)) p)
-          (T-right (implies (a .secrecy) (b .secrecy)) (implies (b .integrity) (a .integrity)) q) k;
+      secrecy = implies-antisym (a .secrecy) (b .secrecy) (flows-secrecy b a q) (flows-secrecy a b p) k;
+      integrity = implies-antisym (a .integrity) (b .integrity) (flows-integrity a b p) (flows-integrity b a q) k;
     }
 
 -- a join flows to c if and only if both its parts do

@@ -4,25 +4,28 @@ use mathlib.Core.List.{List}
 use mathlib.Core.Logic.{_↔_}
 use Prim.Native.Nat.{ℕ}
 use lib.Dec.{T}
+use borrow.Author.Tests.{eq-eqb, eqb-true}
 use Rattle.formulas.specs.Formula.{Entails, conjunction, disjunction, table, implies}
 use Rattle.formulas.proofs.Formula.{table-conjunction, table-disjunction}
 use Rattle.formulas.proofs.Implication.{implies-entails}
 use Rattle.formulas.proofs.Normal.{arises-and, arises-or}
-use Rattle.formulas.proofs.Tests.{T-and, T-left, T-right}
-use Rattle.labels.specs.Order.{label, Arising, flows, join, meet}
+use Rattle.formulas.proofs.Tests.{T-eq, T-true}
+use Rattle.labels.specs.Order.{label, Arising, Told, flowTest, flows, join, meet}
 use Rattle.labels.specs.declared.Label.{Label}
+use Rattle.labels.proofs.Halves.{told}
 
 module _ (S I S′ I′ : List ℕ) where
+  -- the flow test of ⟨S, I⟩ to ⟨S', I'⟩ tells whether it is S' implies S that fails, or I implies I', or both
+  pub flow-test-published : Told (flowTest (label S I) (label S′ I′)) (Entails 6 S′ S) (Entails 6 I I′)
+  unfolding flowTest
+  flow-test-published =
+      told (implies (table 6 S′) (table 6 S)) (implies (table 6 I) (table 6 I′)) (implies-entails 6 S′ S) (implies-entails 6 I I′)
+
   -- ⟨S, I⟩ flows to ⟨S', I'⟩ if and only if S' implies S and I implies I'
   pub flows-published : T (flows (label S I) (label S′ I′)) ↔ (Entails 6 S′ S × Entails 6 I I′)
-  unfolding flows
   flows-published = (
-    λ h. (
-      implies-entails 6 S′ S .0 (T-left (implies (table 6 S′) (table 6 S)) (implies (table 6 I) (table 6 I′)) h),
-      implies-entails 6 I I′ .0 (T-right (implies (table 6 S′) (table 6 S)) (implies (table 6 I) (table 6 I′)) h),
-    ),
-    λ h. T-and (implies (table 6 S′) (table 6 S)) (implies (table 6 I) (table 6 I′))
-        (implies-entails 6 S′ S .1 (h .0)) (implies-entails 6 I I′ .1 (h .1)),
+    λ h. flow-test-published .none .0 (eqb-true (flowTest (label S I) (label S′ I′)) 0 (T-true (flows (label S I) (label S′ I′)) h)),
+    λ h. T-eq (sym (eq-eqb (flowTest (label S I) (label S′ I′)) 0 (flow-test-published .none .1 h))) tt,
   )
 
   -- join is ⟨S and S', I or I'⟩

@@ -2,7 +2,7 @@
 use mathlib.Core.Bool.{Bool, true, false, true≢false}
 use mathlib.Core.Path.{_≡_, refl, sym, ap, _∙_, subst}
 use Rattle.labels.specs.declared.Label.{Label}
-use Rattle.model.specs.State.{Store, Program, Outcome, shown}
+use Rattle.model.specs.State.{Store, Program, flowsIn, Outcome, shown}
 use Rattle.model.specs.declared.Account.{Account}
 use Rattle.model.specs.Effects.{holding, contentsOf, outcome}
 use Rattle.model.specs.declared.Kind.the-variants.{Sealed}
@@ -16,10 +16,10 @@ use Rattle.model.proofs.LowEquivalence.{SharedContents, SharedSlot, Sha
 
 module _ (P : Program) (Low : Label → Bool) (D : LowSet P Low) where
   -- a label that is not in the set doesn't flow to a bound in the set
-  no-flow : (l b : Label) → Low l ≡ false → Low b ≡ true → P .flows l b ≡ false
-  no-flow l b u e = test (P .flows l b) refl
+  no-flow : (l b : Label) → Low l ≡ false → Low b ≡ true → flowsIn P l b ≡ false
+  no-flow l b u e = test (flowsIn P l b) refl
     where
-      test : (t : Bool) → P .flows l b ≡ t → P .flows l b ≡ false
+      test : (t : Bool) → flowsIn P l b ≡ t → flowsIn P l b ≡ false
       test true f = absurd (true≢false (sym (D .down l b f e) ∙ u))
       test false f = f
 
@@ -40,7 +40,7 @@ module _ (P : Program) (Low : Label → Bool) (D : LowSet P Low) where
       × SharedSlot σ τ (shown Low (holding Sealed b (outcome P b (record { ending = e; account = a; store = σ }))))
   unfolding outcome
   outcome-visible b σ τ e f a c (together h) =
-      (refl, shared-visible P Low σ τ Sealed b _ (cond-one (SharedContents σ τ) (P .flows (a .label) b) (λ _. shared-ending σ τ e h) (λ _. tt)))
+      (refl, shared-visible P Low σ τ Sealed b _ (cond-one (SharedContents σ τ) (flowsIn P (a .label) b) (λ _. shared-ending σ τ e h) (λ _. tt)))
   outcome-visible b σ τ e f a c (apart u v) = bound (Low b) refl
     where
       o : Outcome

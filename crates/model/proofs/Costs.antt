@@ -6,10 +6,10 @@ use native.Mathlib.Omega.{arith}
 use lib.Dec.{leb, ltb}
 use borrow.Author.Tests.{leb-true}
 use Rattle.labels.specs.declared.Label.{Label}
-use Rattle.model.specs.State.{Control, Store, Program, Runner, at, jump, withSteps}
+use Rattle.model.specs.State.{Control, Store, Program, flowsIn, Runner, at, jump, withSteps}
 use Rattle.model.specs.declared.Account.{Account}
 use Rattle.model.specs.Operands.{Request, none, ends, throws, raises, lowers, labels, opens, makes, writes, blocks, Plan, faults, asks, plan}
-use Rattle.model.specs.Effects.{Next, fail, checkTarget, raised, openSlot, labelSlot, writeSlot, act}
+use Rattle.model.specs.Effects.{Next, fail, checkBetween, checkTarget, raised, openSlot, labelSlot, writeSlot, act}
 use Rattle.model.specs.Running.{perform, step}
 use Rattle.model.specs.declared.Datum.{Datum}
 use Rattle.model.specs.declared.Slot.{Slot}
@@ -33,7 +33,7 @@ withStep x = costs (1 + x .steps) (x .places)
 
 -- 23 and 24 of SEAL, NEW and BLOCK don't apply
 abbrev pub targetOk : Program → Account → Label → Bool
-targetOk P a l = P .flows (a .label) l && P .flows l (a .clearance)
+targetOk P a l = flowsIn P (a .label) l && flowsIn P l (a .clearance)
 
 -- A record made costs a place. A block entered costs n steps and k + 1 places, whatever its body does. All else, and
 -- every fault, costs nothing more.
@@ -86,19 +86,25 @@ module _ (P : Program) (R : Runner) (c : Control) (a : Account) (σ : Store) whe
   target-cost : (l : Label) (t : Bool) (u : Cost) (x : Next) → Costs (cond t u (costs 0 0)) x
       → Costs (cond (targetOk P a l && t) u (costs 0 0)) (checkTarget P l c a σ x)
   target-cost l t u x h =
-      rw (and-assoc (P .flows (a .label) l) (P .flows l (a .clearance)) t)
-      (first-test Costs (P .flows (a .label) l) (P .flows l (a .clearance) && t) u
-      (λ _. first-test Costs (P .flows l (a .clearance)) t u (λ _. h) (λ _. faulted 24 0))
-      (λ _. faulted 23 0))
+      rw (and-assoc (flowsIn P (a .label) l) (flowsIn P l (a .clearance)) t)
+      (first-test Costs (flowsIn P (a .label) l) (flowsIn P l (a .clearance) && t) u
+      (λ _. first-test Costs (flowsIn P l (a .clearance)) t u (λ _. h) (λ _. faulted 24 _))
+      (λ _. faulted 23 _))
+
+  between-free : (first second : ℕ) (l : Label) (x : Next) → Costs (costs 0 0) x → Costs (costs 0 0) (checkBetween P first second l c a σ x)
+  between-free first second l x h =
+      cond-one (Costs (costs 0 0)) (flowsIn P (a .label) l)
+      (λ _. cond-one (Costs (costs 0 0)) (flowsIn P l (a .clearance)) (λ _. h) (λ _. faulted second _))
+      (λ _. faulted first _)
 
   open-cost : (r : Control) (x : Slot) → Costs (costs 0 0) (openSlot P c r a σ x)
   unfolding openSlot
   open-cost r Empty = faulted 33 0
   open-cost r (Full x) =
-      cond-one (Costs (costs 0 0)) (P .flows (P .join (a .label) (x .label)) (a .clearance))
+      cond-one (Costs (costs 0 0)) (flowsIn P (P .join (a .label) (x .label)) (a .clearance))
       (λ _. yield-of (λ b _. Paid (costs 0 0) a b) c r (raised P (x .label) a) σ (x .contents)
       (record { steps = omega arith; next = omega arith; limit = refl; depth = refl }))
-      (λ _. faulted 24 0)
+      (λ _. faulted 24 _)
 
   label-cost : (r : Control) (x : Slot) → Costs (costs 0 0) (labelSlot c r a σ x)
   unfolding labelSlot
@@ -108,10 +114,7 @@ module _ (P : Program) (R : Runner) (c : Control) (a : Account) (σ : Store) whe
   write-cost : (r : Control) (p : ℕ) (d : Datum) (x : Slot) → Costs (costs 0 0) (writeSlot P c r a σ p d x)
   unfolding writeSlot
   write-cost r p d Empty = faulted 33 0
-  write-cost r p d (Full x) =
-      cond-one (Costs (costs 0 0)) (P .flows (a .label) (x .label))
-      (λ _. cond-one (Costs (costs 0 0)) (P .flows (x .label) (a .clearance)) (λ _. paid-none a) (λ _. faulted 24 0))
-      (λ _. faulted 23 0)
+  write-cost r p d (Full x) = between-free 23 24 (x .label) _ (paid-none a)
 
   act-cost : (r : Control) (q : Request) → Costs (cost P a q) (act P R c r a σ q)
   unfolding act cost
@@ -119,11 +122,10 @@ module _ (P : Program) (R : Runner) (c : Control) (a : Account) (σ : Store) whe
   act-cost r (ends d) = paid-none a
   act-cost r (throws n) = faulted 30 n
   act-cost r (raises l) =
-      cond-one (Costs (costs 0 0)) (P .flows (P .join (a .label) l) (a .clearance))
-      (λ _. record { steps = omega arith; next = omega arith; limit = refl; depth = refl }) (λ _. faulted 24 0)
+      cond-one (Costs (costs 0 0)) (flowsIn P (P .join (a .label) l) (a .clearance))
+      (λ _. record { steps = omega arith; next = omega arith; limit = refl; depth = refl }) (λ _. faulted 24 _)
   act-cost r (lowers l) =
-      cond-one (Costs (costs 0 0)) (P .flows (a .label) l && P .flows l (a .clearance))
-      (λ _. record { steps = omega arith; next = omega arith; limit = refl; depth = refl }) (λ _. faulted 25 0)
+      between-free 25 25 l _ (record { steps = omega arith; next = omega arith; limit = refl; depth = refl })
   act-cost r (labels p) = label-cost r (at σ p)
   act-cost r (opens p) = open-cost r (at σ p)
   act-cost r (makes h l d) =

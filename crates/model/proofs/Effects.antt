@@ -8,10 +8,10 @@ use lib.Dec.{leb, ltb}
 use borrow.Author.Tests.{ltb-true, leb-true}
 use lib.ListN.{set}
 use Rattle.labels.specs.declared.Label.{Label}
-use Rattle.model.specs.State.{Control, Store, Program, Outcome, Runner, at, jump, withClearance, withSteps, withNext}
+use Rattle.model.specs.State.{Control, Store, Program, flowsIn, Outcome, Runner, at, jump, withClearance, withSteps, withNext}
 use Rattle.model.specs.declared.Account.{Account}
 use Rattle.model.specs.Operands.{Request, none, ends, throws, raises, lowers, labels, opens, makes, writes, blocks, Plan, faults, asks, plan}
-use Rattle.model.specs.Effects.{Next, go, stop, failTo, fail, checkTarget, raised, holding, yield, openSlot, labelSlot, writeSlot, bodyControl, bodyAccount, act}
+use Rattle.model.specs.Effects.{Next, go, stop, failTo, fail, checkBetween, checkRaise, raised, holding, yield, openSlot, labelSlot, writeSlot, bodyControl, bodyAccount, act}
 use Rattle.model.specs.Running.{perform, step, resume, pay, run}
 use Rattle.model.specs.declared.Kind.{Kind}
 use Rattle.model.specs.declared.Kind.the-variants.{Sealed}
@@ -40,14 +40,14 @@ Of G x = G (accountOf x) (storeOf x)
 pub record Effects (P : Program) (R : Runner) (a : Account) (σ : Store) (G : Account → Store → Type 0) : Type 0 where
   -- a fault, or a change of the script's part only
   pub keeps : G a σ
-  pub raises-to : (l : Label) → P .flows (P .join (a .label) l) (a .clearance) ≡ true → G (raised P l a) σ
-  pub lowers-to : (l : Label) → P .flows (a .label) l ≡ true → P .flows l (a .clearance) ≡ true → G (withClearance l a) σ
-  pub made : (h : Kind) (l : Label) (d : Datum) → P .flows (a .label) l ≡ true → P .flows l (a .clearance) ≡ true → a .next < a .limit
+  pub raises-to : (l : Label) → flowsIn P (P .join (a .label) l) (a .clearance) ≡ true → G (raised P l a) σ
+  pub lowers-to : (l : Label) → flowsIn P (a .label) l ≡ true → flowsIn P l (a .clearance) ≡ true → G (withClearance l a) σ
+  pub made : (h : Kind) (l : Label) (d : Datum) → flowsIn P (a .label) l ≡ true → flowsIn P l (a .clearance) ≡ true → a .next < a .limit
       → G (withNext (a .next + 1) a) (set σ (a .next) (holding h l (Holds d)))
-  pub written : (p : ℕ) (x : Record) (d : Datum) → at σ p ≡ Full x → P .flows (a .label) (x .label) ≡ true
-      → P .flows (x .label) (a .clearance) ≡ true → G a (set σ p (holding (x .kind) (x .label) (Holds d)))
+  pub written : (p : ℕ) (x : Record) (d : Datum) → at σ p ≡ Full x → flowsIn P (a .label) (x .label) ≡ true
+      → flowsIn P (x .label) (a .clearance) ≡ true → G a (set σ p (holding (x .kind) (x .label) (Holds d)))
   -- whatever the outcome x is
-  pub blocked : (c : Control) (b : Label) (n k : ℕ) → P .flows (a .label) b ≡ true → P .flows b (a .clearance) ≡ true → n ≤ a .steps
+  pub blocked : (c : Control) (b : Label) (n k : ℕ) → flowsIn P (a .label) b ≡ true → flowsIn P b (a .clearance) ≡ true → n ≤ a .steps
       → a .next + 1 + k ≤ a .limit → (x : Contents)
       → G (withNext (a .next + 1 + k) (withSteps (a .steps - n) a)) (set (R c (bodyAccount n k a) σ .store) (a .next) (holding Sealed b x))
 
@@ -72,16 +72,21 @@ module _ (G : Account → Store → Type 0) where
     fails : (code n : ℕ) → Of G (fail code n c a σ)
     fails code n = fail-of code n c a σ (E .keeps)
 
-    target-of : (l : Label) (x : Next) → (P .flows (a .label) l ≡ true → P .flows l (a .clearance) ≡ true → Of G x) → Of G (checkTarget P l c a σ x)
-    target-of l x h =
-        cond-one (Of G) (P .flows (a .label) l) (λ e. cond-one (Of G) (P .flows l (a .clearance)) (λ f. h e f) (λ _. fails 24 0)) (λ _. fails 23 0)
+    between-of : (first second : ℕ) (l : Label) (x : Next) → (flowsIn P (a .label) l ≡ true → flowsIn P l (a .clearance) ≡ true → Of G x)
+        → Of G (checkBetween P first second l c a σ x)
+    between-of first second l x h =
+        cond-one (Of G) (flowsIn P (a .label) l)
+        (λ e. cond-one (Of G) (flowsIn P l (a .clearance)) (λ f. h e f) (λ _. fails second _))
+        (λ _. fails first _)
+
+    raise-of : (l : Label) (x : Next) → (flowsIn P (P .join (a .label) l) (a .clearance) ≡ true → Of G x) → Of G (checkRaise P l c a σ x)
+    raise-of l x h = cond-one (Of G) (flowsIn P (P .join (a .label) l) (a .clearance)) h (λ _. fails 24 _)
 
     open-of : (r : Control) (x : Slot) → Of G (openSlot P c r a σ x)
     unfolding openSlot
     open-of r Empty = fails 33 0
     open-of r (Full x) =
-        cond-one (Of G) (P .flows (P .join (a .label) (x .label)) (a .clearance))
-        (λ e. yield-of c r (raised P (x .label) a) σ (x .contents) (E .raises-to (x .label) e)) (λ _. fails 24 0)
+        raise-of (x .label) _ (λ e. yield-of c r (raised P (x .label) a) σ (x .contents) (E .raises-to (x .label) e))
 
     label-of : (r : Control) (x : Slot) → Of G (labelSlot c r a σ x)
     unfolding labelSlot
@@ -91,26 +96,23 @@ module _ (G : Account → Store → Type 0) where
     write-of : (r : Control) (p : ℕ) (d : Datum) (x : Slot) → at σ p ≡ x → Of G (writeSlot P c r a σ p d x)
     unfolding writeSlot
     write-of r p d Empty e = fails 33 0
-    write-of r p d (Full x) e = target-of (x .label) _ (λ f g. E .written p x d e f g)
+    write-of r p d (Full x) e = between-of 23 24 (x .label) _ (λ f g. E .written p x d e f g)
 
     act-of : (r : Control) (q : Request) → Of G (act P R c r a σ q)
     unfolding act
     act-of r none = E .keeps
     act-of r (ends d) = E .keeps
     act-of r (throws n) = fails 30 n
-    act-of r (raises l) = cond-one (Of G) (P .flows (P .join (a .label) l) (a .clearance)) (λ e. E .raises-to l e) (λ _. fails 24 0)
-    act-of r (lowers l) =
-        cond-one (Of G) (P .flows (a .label) l && P .flows l (a .clearance))
-        (λ e. let both = and-eq-true-iff (P .flows (a .label) l) (P .flows l (a .clearance)) .0 e in E .lowers-to l (both .0) (both .1))
-        (λ _. fails 25 0)
+    act-of r (raises l) = raise-of l _ (λ e. E .raises-to l e)
+    act-of r (lowers l) = between-of 25 25 l _ (λ f g. E .lowers-to l f g)
     act-of r (labels p) = label-of r (at σ p)
     act-of r (opens p) = open-of r (at σ p)
     act-of r (makes h l d) =
-        target-of l _
+        between-of 23 24 l _
         (λ f g. cond-one (Of G) (ltb (a .next) (a .limit)) (λ e. E .made h l d f g (ltb-true (a .next) (a .limit) e)) (λ _. fails 26 0))
     act-of r (writes p d) = write-of r p d (at σ p) refl
     act-of r (blocks b t n k) =
-        target-of b _
+        between-of 23 24 b _
         (λ f g. cond-one (Of G) (ltb (a .depth) 8)
         (λ _. cond-one (Of G) (leb n (a .steps))
         (λ d. cond-one (Of G) (leb (a .next + 1 + k) (a .limit))

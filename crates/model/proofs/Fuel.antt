@@ -7,7 +7,7 @@ use native.Mathlib.Nat.{le-refl}
 use native.Mathlib.Omega.{arith}
 use lib.Dec.{leb, ltb}
 use borrow.Author.Tests.{leb-true}
-use Rattle.model.specs.State.{Control, Store, Program, Outcome, Runner, jump, withSteps}
+use Rattle.model.specs.State.{Control, Store, Program, flowsIn, Outcome, Runner, jump, withSteps}
 use Rattle.model.specs.declared.Account.{Account}
 use Rattle.model.specs.Operands.{Request, none, ends, throws, raises, lowers, labels, opens, makes, writes, blocks, Plan, faults, asks, plan}
 use Rattle.model.specs.Effects.{Next, go, stop, fail, bodyControl, bodyAccount, sealOutcome, act}
@@ -51,8 +51,8 @@ module _ (P : Program) where
   act-agree R Q c r a σ h (makes k l d) = refl
   act-agree R Q c r a σ h (writes p d) = refl
   act-agree R Q c r a σ h (blocks b t n k) =
-      cond-two (λ x y. x ≡ y) (P .flows (a .label) b)
-      (λ _. cond-two (λ x y. x ≡ y) (P .flows b (a .clearance))
+      cond-two (λ x y. x ≡ y) (flowsIn P (a .label) b)
+      (λ _. cond-two (λ x y. x ≡ y) (flowsIn P b (a .clearance))
       (λ _. cond-two (λ x y. x ≡ y) (ltb (a .depth) 8)
       (λ _. cond-two (λ x y. x ≡ y) (leb n (a .steps))
       (λ e. ap (λ (o : Outcome). cond (leb (a .next + 1 + k) (a .limit)) (sealOutcome P r a b n k o) (fail 26 0 c a σ))

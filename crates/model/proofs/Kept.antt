@@ -5,7 +5,7 @@ use Prim.Native.Nat.{ℕ, _+_, _-_, _≤_, _<_}
 use native.Mathlib.Omega.{arith}
 use lib.ListN.{length, set, length-set}
 use Rattle.labels.specs.declared.Label.{Label}
-use Rattle.model.specs.State.{Control, Store, Program, Runner, at, withSteps, withNext, shown}
+use Rattle.model.specs.State.{Control, Store, Program, flowsIn, Runner, at, withSteps, withNext, shown}
 use Rattle.model.specs.declared.Account.{Account}
 use Rattle.model.specs.Effects.{Next, holding, bodyAccount}
 use Rattle.model.specs.Running.{step, resume, run}
@@ -24,9 +24,9 @@ use Rattle.model.proofs.Effects.{Runs, Of, step-of, resume-of, run-of}
 -- All that is asked of the order, and of the set Low of the labels that an observer sees: the set is closed downward
 -- under the flow test, and a join is above both its sides.
 pub record LowSet (P : Program) (Low : Label → Bool) : Type 0 where
-  pub down : (l m : Label) → P .flows l m ≡ true → Low m ≡ true → Low l ≡ true
-  pub join-left : (l m : Label) → P .flows l (P .join l m) ≡ true
-  pub join-right : (l m : Label) → P .flows m (P .join l m) ≡ true
+  pub down : (l m : Label) → flowsIn P l m ≡ true → Low m ≡ true → Low l ≡ true
+  pub join-left : (l m : Label) → flowsIn P l (P .join l m) ≡ true
+  pub join-right : (l m : Label) → flowsIn P m (P .join l m) ≡ true
 
 -- a record without its contents
 unfoldable pub shell : Slot → Slot
@@ -66,7 +66,7 @@ unseen Low h l x e = rw e
 
 module _ (P : Program) (Low : Label → Bool) (D : LowSet P Low) where
   -- the labels that are not in the set are closed upward
-  pub up : (l m : Label) → P .flows l m ≡ true → Low l ≡ false → Low m ≡ false
+  pub up : (l m : Label) → flowsIn P l m ≡ true → Low l ≡ false → Low m ≡ false
   up l m f e = test (Low m) refl
     where
       test : (b : Bool) → Low m ≡ b → Low m ≡ false
@@ -95,7 +95,7 @@ module _ (P : Program) (Low : Label → Bool) (D : LowSet P Low) where
 
   -- a record's contents are replaced
   write-kept : (a : Account) (σ : Store) (p : ℕ) (x : Record) (y : Contents) → Fresh a σ → at σ p ≡ Full x
-      → P .flows (a .label) (x .label) ≡ true → Kept Low a σ a (set σ p (holding (x .kind) (x .label) y))
+      → flowsIn P (a .label) (x .label) ≡ true → Kept Low a σ a (set σ p (holding (x .kind) (x .label) y))
   unfolding shell
   write-kept a σ p x y fr e f =
       record {
@@ -121,7 +121,7 @@ module _ (P : Program) (Low : Label → Bool) (D : LowSet P Low) where
   -- the next place is filled, after a run from account b within the places behind it
   seal-kept : (a b b′ a′ : Account) (σ τ : Store) (h : Kind) (l : Label) (x : Contents) → Fresh a σ → Kept Low b σ b′ τ
       → a .next < b .next → b .limit ≤ a′ .next → a .next < a′ .next → a′ .limit ≤ a .limit → b .limit ≤ a .limit → a .next < a .limit
-      → a′ .label ≡ a .label → b .label ≡ a .label → P .flows (a .label) l ≡ true
+      → a′ .label ≡ a .label → b .label ≡ a .label → flowsIn P (a .label) l ≡ true
       → Kept Low a σ a′ (set τ (a .next) (holding h l x))
   unfolding shell shown
   seal-kept a b b′ a′ σ τ h l x fr k c1 c2 c3 c4 c5 c6 e1 e2 f =
@@ -150,7 +150,7 @@ module _ (P : Program) (Low : Label → Bool) (D : LowSet P Low) where
   RunnerKept R = (c : Control) (a : Account) (σ : Store) → Fresh a σ → Kept Low a σ (R c a σ .account) (R c a σ .store)
 
   -- SEAL and NEW are a block with an empty body
-  make-kept : (a : Account) (σ : Store) (h : Kind) (l : Label) (x : Contents) → Fresh a σ → a .next < a .limit → P .flows (a .label) l ≡ true
+  make-kept : (a : Account) (σ : Store) (h : Kind) (l : Label) (x : Contents) → Fresh a σ → a .next < a .limit → flowsIn P (a .label) l ≡ true
       → Kept Low a σ (withNext (a .next + 1) a) (set σ (a .next) (holding h l x))
   make-kept a σ h l x fr lt f =
       seal-kept a (bodyAccount 0 0 a) (bodyAccount 0 0 a) (withNext (a .next + 1) a) σ σ h l x fr
@@ -158,7 +158,7 @@ module _ (P : Program) (Low : Label → Bool) (D : LowSet P Low) where
       (omega arith) (omega arith) (omega arith) (omega arith) (omega arith) (omega arith) refl refl f
 
   block-kept : (R : Runner) → RunnerKept R → (c : Control) (a : Account) (σ : Store) (b : Label) (n k : ℕ) (x : Contents) → Fresh a σ
-      → a .next + 1 + k ≤ a .limit → P .flows (a .label) b ≡ true
+      → a .next + 1 + k ≤ a .limit → flowsIn P (a .label) b ≡ true
       → Kept Low a σ (withNext (a .next + 1 + k) (withSteps (a .steps - n) a))
       (set (R c (bodyAccount n k a) σ .store) (a .next) (holding Sealed b x))
   block-kept R RK c a σ b n k x fr le f =

@@ -5,10 +5,10 @@ use Prim.Native.Nat.{ℕ, _+_, _-_}
 use lib.Dec.{leb, ltb, eqb}
 use lib.ListN.{length}
 use Rattle.labels.specs.declared.Label.{Label}
-use Rattle.model.specs.State.{Control, Store, Program, Runner, at, jump, withStack}
+use Rattle.model.specs.State.{Control, Store, Program, flowsIn, Runner, at, jump, withStack}
 use Rattle.model.specs.declared.Account.{Account}
 use Rattle.model.specs.Operands.{Request, none, ends, throws, raises, lowers, labels, opens, makes, writes, blocks, Plan, faults, asks, popFrom, asNumber, asLabel, pop, popNumber, popLabel, arity, dropFrame, operate, plan}
-use Rattle.model.specs.Effects.{Next, go, stop, failTo, fail, checkTarget, raised, yield, openSlot, labelSlot, writeSlot, act}
+use Rattle.model.specs.Effects.{Next, go, stop, failTo, fail, checkBetween, raised, yield, openSlot, labelSlot, writeSlot, act}
 use Rattle.model.specs.Running.{perform, step}
 use Rattle.model.specs.declared.Datum.{Datum}
 use Rattle.model.specs.declared.Value.{Value}
@@ -162,15 +162,17 @@ module _ (N : ℕ → Type 0) where
     fails : (code n : ℕ) → NextLands (fail code n c a σ)
     fails code n = fail-lands code n c a σ gc
 
-    target-lands : (l : Label) (x : Next) → NextLands x → NextLands (checkTarget P l c a σ x)
-    target-lands l x h =
-        cond-one NextLands (P .flows (a .label) l) (λ _. cond-one NextLands (P .flows l (a .clearance)) (λ _. h) (λ _. fails 24 0)) (λ _. fails 23 0)
+    between-lands : (first second : ℕ) (l : Label) (x : Next) → NextLands x → NextLands (checkBetween P first second l c a σ x)
+    between-lands first second l x h =
+        cond-one NextLands (flowsIn P (a .label) l)
+        (λ _. cond-one NextLands (flowsIn P l (a .clearance)) (λ _. h) (λ _. fails second _))
+        (λ _. fails first _)
 
     open-lands : (x : Slot) → N (r .pc) → NextLands (openSlot P c r a σ x)
     unfolding openSlot yield
     open-lands Empty h = fails 33 0
     open-lands (Full x) h =
-        cond-one NextLands (P .flows (P .join (a .label) (x .label)) (a .clearance)) (λ _. contents (x .contents)) (λ _. fails 24 0)
+        cond-one NextLands (flowsIn P (P .join (a .label) (x .label)) (a .clearance)) (λ _. contents (x .contents)) (λ _. fails 24 _)
       where
         contents : (y : Contents) → NextLands (yield c r (raised P (x .label) a) σ y)
         contents (Holds d) = (h, gr)
@@ -184,21 +186,21 @@ module _ (N : ℕ → Type 0) where
     write-lands : (p : ℕ) (d : Datum) (x : Slot) → N (r .pc) → NextLands (writeSlot P c r a σ p d x)
     unfolding writeSlot
     write-lands p d Empty h = fails 33 0
-    write-lands p d (Full x) h = target-lands (x .label) _ (h, gr)
+    write-lands p d (Full x) h = between-lands 23 24 (x .label) _ (h, gr)
 
     act-lands : (q : Request) → GoesOn (r .pc) q → NextLands (act P R c r a σ q)
     unfolding act
     act-lands none h = (h, gr)
     act-lands (ends d) h = tt
     act-lands (throws n) h = fails 30 n
-    act-lands (raises l) h = cond-one NextLands (P .flows (P .join (a .label) l) (a .clearance)) (λ _. (h, gr)) (λ _. fails 24 0)
-    act-lands (lowers l) h = cond-one NextLands (P .flows (a .label) l && P .flows l (a .clearance)) (λ _. (h, gr)) (λ _. fails 25 0)
+    act-lands (raises l) h = cond-one NextLands (flowsIn P (P .join (a .label) l) (a .clearance)) (λ _. (h, gr)) (λ _. fails 24 _)
+    act-lands (lowers l) h = between-lands 25 25 l _ (h, gr)
     act-lands (labels p) h = labelled-lands (at σ p) h
     act-lands (opens p) h = open-lands (at σ p) h
-    act-lands (makes k l d) h = target-lands l _ (cond-one NextLands (ltb (a .next) (a .limit)) (λ _. (h, gr)) (λ _. fails 26 0))
+    act-lands (makes k l d) h = between-lands 23 24 l _ (cond-one NextLands (ltb (a .next) (a .limit)) (λ _. (h, gr)) (λ _. fails 26 0))
     act-lands (writes p d) h = write-lands p d (at σ p) h
     act-lands (blocks b t n k) h =
-        target-lands b _
+        between-lands 23 24 b _
         (cond-one NextLands (ltb (a .depth) 8)
         (λ _. cond-one NextLands (leb n (a .steps))
         (λ _. cond-one NextLands (leb (a .next + 1 + k) (a .limit)) (λ _. (h .1, gr)) (λ _. fails 26 0))

@@ -6,7 +6,7 @@ use Prim.Native.Nat.{ℕ, zero, suc, _+_, _-_}
 use lib.Dec.{leb, ltb, eqb}
 use lib.ListN.{length, getD, set, drop}
 use Rattle.labels.specs.declared.Label.{Label}
-use Rattle.model.specs.State.{Control, Program, value, number, withStack}
+use Rattle.model.specs.State.{Control, Program, flowsIn, value, number, withStack}
 use Rattle.model.specs.declared.Account.{Account}
 use Rattle.model.specs.Operands.{Request, none, ends, throws, raises, lowers, labels, opens, makes, writes, blocks, Plan, faults, asks, popFrom, asNumber, asLabel, asHandle, asSealed, asReference, pop, popNumber, popLabel, arity, pushes, truth, dropFrame, operate, plan}
 use Rattle.model.specs.declared.Kind.{Kind}
@@ -183,7 +183,7 @@ module _ (T : ℕ → Type 0) where
     operate-in c g Clr = pushes-in c g _ (c .stack) tt (g .stack)
     operate-in c g Raise = one-label c g _ (λ l s h. (rest c g s h, tt))
     operate-in c g Lower = one-label c g _ (λ l s h. (rest c g s h, tt))
-    operate-in c g Flows = two-labels c g _ (λ l m. truth-in (P .flows l m))
+    operate-in c g Flows = two-labels c g _ (λ l m. truth-in (flowsIn P l m))
     operate-in c g Join = two-labels c g _ (λ l m. tt)
     operate-in c g Meet = two-labels c g _ (λ l m. tt)
     operate-in c g Seal = one-label c g _ (λ l s h. any (withStack s c) (rest c g s h) _ (λ d t x k. (rest c g t k, x)))

@@ -7,10 +7,10 @@ use native.Mathlib.Nat.{le-refl}
 use native.Mathlib.Omega.{arith}
 use lib.Dec.{leb, ltb}
 use Rattle.labels.specs.declared.Label.{Label}
-use Rattle.model.specs.State.{Control, Store, Program, Outcome, Runner, at, jump, withSteps}
+use Rattle.model.specs.State.{Control, Store, Program, flowsIn, Outcome, Runner, at, jump, withSteps}
 use Rattle.model.specs.declared.Account.{Account}
 use Rattle.model.specs.Operands.{Request, none, ends, throws, raises, lowers, labels, opens, makes, writes, blocks, Plan, faults, asks, plan}
-use Rattle.model.specs.Effects.{Next, go, stop, failTo, fail, check, checkTarget, raised, yield, openSlot, labelSlot, writeSlot, act}
+use Rattle.model.specs.Effects.{Next, go, stop, failTo, fail, check, checkFlow, checkBetween, raised, yield, openSlot, labelSlot, writeSlot, act}
 use Rattle.model.specs.Running.{perform, step, resume, pay, run, runs}
 use Rattle.model.specs.declared.Datum.{Datum}
 use Rattle.model.specs.declared.Contents.{Contents}
@@ -53,16 +53,19 @@ module _ (P : Program) (R : Runner) (σ : Store) where
   yields c r a (Fault code n) = fails code n c a
 
   module _ (c : Control) (a : Account) where
-    checked : (t : Bool) (code : ℕ) (x : Next) → Sound x → Sound (check t code c a σ x)
-    checked t code x h = cond-one Sound t (λ _. h) (λ _. fails code 0 c a)
+    checked : (t : Bool) (code n : ℕ) (x : Next) → Sound x → Sound (check t code n c a σ x)
+    checked t code n x h = cond-one Sound t (λ _. h) (λ _. fails code n c a)
 
-    on-target : (l : Label) (x : Next) → Sound x → Sound (checkTarget P l c a σ x)
-    on-target l x h = checked (P .flows (a .label) l) 23 _ (checked (P .flows l (a .clearance)) 24 x h)
+    flowing : (l m : Label) (code : ℕ) (x : Next) → Sound x → Sound (checkFlow P l m code c a σ x)
+    flowing l m code x h = checked (flowsIn P l m) code _ x h
+
+    between : (first second : ℕ) (l : Label) (x : Next) → Sound x → Sound (checkBetween P first second l c a σ x)
+    between first second l x h = flowing (a .label) l first _ (flowing l (a .clearance) second x h)
 
     opened : (r : Control) (x : Slot) → Sound (openSlot P c r a σ x)
     unfolding openSlot
     opened r Empty = fails 33 0 c a
-    opened r (Full x) = checked (P .flows (P .join (a .label) (x .label)) (a .clearance)) 24 _ (yields c r (raised P (x .label) a) (x .contents))
+    opened r (Full x) = flowing (P .join (a .label) (x .label)) (a .clearance) 24 _ (yields c r (raised P (x .label) a) (x .contents))
 
     labelled : (r : Control) (x : Slot) → Sound (labelSlot c r a σ x)
     unfolding labelSlot
@@ -72,21 +75,21 @@ module _ (P : Program) (R : Runner) (σ : Store) where
     written : (r : Control) (p : ℕ) (d : Datum) (x : Slot) → Sound (writeSlot P c r a σ p d x)
     unfolding writeSlot
     written r p d Empty = fails 33 0 c a
-    written r p d (Full x) = on-target (x .label) _ refl
+    written r p d (Full x) = between 23 24 (x .label) _ refl
 
     acts : (r : Control) (q : Request) → Sound (act P R c r a σ q)
     unfolding act
     acts r none = refl
     acts r (ends d) = refl
     acts r (throws n) = fails 30 n c a
-    acts r (raises l) = checked (P .flows (P .join (a .label) l) (a .clearance)) 24 _ refl
-    acts r (lowers l) = checked (P .flows (a .label) l && P .flows l (a .clearance)) 25 _ refl
+    acts r (raises l) = flowing (P .join (a .label) l) (a .clearance) 24 _ refl
+    acts r (lowers l) = between 25 25 l _ refl
     acts r (labels p) = labelled r (at σ p)
     acts r (opens p) = opened r (at σ p)
-    acts r (makes h l d) = on-target l _ (checked (ltb (a .next) (a .limit)) 26 _ refl)
+    acts r (makes h l d) = between 23 24 l _ (checked (ltb (a .next) (a .limit)) 26 0 _ refl)
     acts r (writes p d) = written r p d (at σ p)
     acts r (blocks b t n k) =
-        on-target b _ (checked (ltb (a .depth) 8) 28 _ (checked (leb n (a .steps)) 27 _ (checked (leb (a .next + 1 + k) (a .limit)) 26 _ refl)))
+        between 23 24 b _ (checked (ltb (a .depth) 8) 28 0 _ (checked (leb n (a .steps)) 27 0 _ (checked (leb (a .next + 1 + k) (a .limit)) 26 0 _ refl)))
 
     performs : (q : Plan) → Sound (perform P R c a σ q)
     unfolding perform

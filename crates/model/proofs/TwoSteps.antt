@@ -8,10 +8,10 @@ use lib.Dec.{leb, ltb}
 use borrow.Author.Tests.{ltb-true, leb-true}
 use lib.ListN.{length, set}
 use Rattle.labels.specs.declared.Label.{Label}
-use Rattle.model.specs.State.{Control, Store, Program, Outcome, Runner, at, number, push, jump, withSteps, withNext, shown}
+use Rattle.model.specs.State.{Control, Store, Program, flowsIn, Outcome, Runner, at, number, push, jump, withSteps, withNext, shown}
 use Rattle.model.specs.declared.Account.{Account}
 use Rattle.model.specs.Operands.{Request, none, ends, throws, raises, lowers, labels, opens, makes, writes, blocks, Plan, faults, asks, plan}
-use Rattle.model.specs.Effects.{Next, go, cut, failTo, fail, checkTarget, raised, holding, yield, openSlot, labelSlot, writeSlot, bodyControl, bodyAccount, outcome, sealOutcome, act}
+use Rattle.model.specs.Effects.{Next, go, cut, failTo, fail, checkFlow, checkBetween, checkTarget, raised, holding, yield, openSlot, labelSlot, writeSlot, bodyControl, bodyAccount, outcome, sealOutcome, act}
 use Rattle.model.specs.Running.{perform, step}
 use Rattle.model.specs.declared.Kind.{Kind}
 use Rattle.model.specs.declared.Kind.the-variants.{Sealed}
@@ -73,11 +73,13 @@ module _ (P : Program) (Low : Label → Bool) (D : LowSet P Low) where
     fails : (code n : ℕ) → LowNext P Low (fail code n c a σ) (fail code n c a τ)
     fails code n = fail-two code n c a σ τ gc s
 
-    target-two : (l : Label) (x y : Next) → LowNext P Low x y → LowNext P Low (checkTarget P l c a σ x) (checkTarget P l c a τ y)
-    target-two l x y h =
-        cond-two (LowNext P Low) (P .flows (a .label) l)
-        (λ _. cond-two (LowNext P Low) (P .flows l (a .clearance)) (λ _. h) (λ _. fails 24 0))
-        (λ _. fails 23 0)
+    -- both runs test equal labels, so a fault's number is the same in both
+    flow-two : (l m : Label) (code : ℕ) (x y : Next) → LowNext P Low x y → LowNext P Low (checkFlow P l m code c a σ x) (checkFlow P l m code c a τ y)
+    flow-two l m code x y h = cond-two (LowNext P Low) (flowsIn P l m) (λ _. h) (λ _. fails code (P .flowTest l m))
+
+    between-two : (first second : ℕ) (l : Label) (x y : Next) → LowNext P Low x y
+        → LowNext P Low (checkBetween P first second l c a σ x) (checkBetween P first second l c a τ y)
+    between-two first second l x y h = flow-two (a .label) l first _ _ (flow-two l (a .clearance) second x y h)
 
     pushed : (d : Datum) → Shared σ τ d → Reach (Twin σ τ) (push d r)
     pushed d o = record { stack = (o, gr .stack); locals = gr .locals }
@@ -108,7 +110,7 @@ module _ (P : Program) (Low : Label → Bool) (D : LowSet P Low) where
         → LowNext P Low (openSlot P c r a σ (holding h l x)) (openSlot P c r a τ (holding j l y))
     unfolding openSlot shown
     open-alike h j l x y o k =
-        cond-two (LowNext P Low) (P .flows (P .join (a .label) l) (a .clearance)) (λ _. contents (Low l) refl) (λ _. fails 24 0)
+        flow-two (P .join (a .label) l) (a .clearance) 24 _ _ (contents (Low l) refl)
       where
         same : holding h l x ≡ holding j l y → x ≡ y
         same e = ap (λ (z : Record). z .contents) (same-record _ _ e)
@@ -134,7 +136,7 @@ module _ (P : Program) (Low : Label → Bool) (D : LowSet P Low) where
     write-alike : (p : ℕ) (d : Datum) (h : Kind) (l : Label) → Shared σ τ d
         → LowNext P Low (checkTarget P l c a σ (go r a (set σ p (holding h l (Holds d))))) (checkTarget P l c a τ (go r a (set τ p (holding h l (Holds d)))))
     write-alike p d h l o =
-        target-two l _ _ (goes (reach-wider (Twin σ τ) (Twin σ′ τ′) grow r gr)
+        between-two 23 24 l _ _ (goes (reach-wider (Twin σ τ) (Twin σ′ τ′) grow r gr)
         (equivalent-set P Low σ τ p h l (Holds d) (Holds d) s refl
         (shared-visible P Low σ′ τ′ h l (Holds d) (points-wider (Twin σ τ) (Twin σ′ τ′) grow d o))))
       where
@@ -228,17 +230,17 @@ module _ (P : Program) (Low : Label → Bool) (D : LowSet P Low) where
     act-two (ends d) i = stops i s
     act-two (throws n) i = fails 30 n
     act-two (raises l) i =
-        cond-two (LowNext P Low) (P .flows (P .join (a .label) l) (a .clearance)) (λ _. goes gr s) (λ _. fails 24 0)
+        flow-two (P .join (a .label) l) (a .clearance) 24 _ _ (goes gr s)
     act-two (lowers l) i =
-        cond-two (LowNext P Low) (P .flows (a .label) l && P .flows l (a .clearance)) (λ _. goes gr s) (λ _. fails 25 0)
+        between-two 25 25 l _ _ (goes gr s)
     act-two (labels p) i = label-two (at σ p) (at τ p) (i .1)
     act-two (opens p) i = open-two (at σ p) (at τ p) (i .1) (s .alike p) (s .shared p)
     act-two (makes h l d) i =
-        target-two l _ _
+        between-two 23 24 l _ _
         (cond-two (LowNext P Low) (ltb (a .next) (a .limit)) (λ e. make-two h l d i (ltb-true (a .next) (a .limit) e)) (λ _. fails 26 0))
     act-two (writes p d) i = write-two p d (at σ p) (at τ p) (i .1) (i .0 .1)
     act-two (blocks b t n k) i =
-        target-two b _ _
+        between-two 23 24 b _ _
         (cond-two (LowNext P Low) (ltb (a .depth) 8)
         (λ _. cond-two (LowNext P Low) (leb n (a .steps))
         (λ _. cond-two (LowNext P Low) (leb (a .next + 1 + k) (a .limit))

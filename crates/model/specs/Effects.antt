@@ -1,11 +1,11 @@
 -- What a request does: faults 23 to 28 in their order, and the effect; and the way of a fault to its handler.
-use mathlib.Core.Bool.{Bool, cond, _&&_}
+use mathlib.Core.Bool.{Bool, cond}
 use mathlib.Core.List.{List, [], _∷_}
 use Prim.Native.Nat.{ℕ, _+_, _-_}
 use lib.Dec.{leb, ltb}
 use lib.ListN.{length, set, drop}
 use Rattle.labels.specs.declared.Label.{Label}
-use Rattle.model.specs.State.{Control, Store, Program, Outcome, Runner, at, number, push, withLabel, withClearance, withSteps, withNext}
+use Rattle.model.specs.State.{Control, Store, Program, flowsIn, Outcome, Runner, at, number, push, withLabel, withClearance, withSteps, withNext}
 use Rattle.model.specs.declared.Account.{Account}
 use Rattle.model.specs.Operands.{Request, none, ends, throws, raises, lowers, labels, opens, makes, writes, blocks}
 use Rattle.model.specs.declared.Kind.{Kind}
@@ -41,17 +41,27 @@ failTo (f ∷ fs) code n c a σ =
 abbrev pub fail : ℕ → ℕ → Control → Account → Store → Next
 fail code n c a σ = failTo (c .frames) code n c a σ
 
--- what follows where a test holds, else a fault with number 0
-abbrev pub check : Bool → ℕ → Control → Account → Store → Next → Next
-check t code c a σ x = cond t x (fail code 0 c a σ)
+-- what follows where a test holds, else a fault
+abbrev pub check : Bool → ℕ → ℕ → Control → Account → Store → Next → Next
+check t code n c a σ x = cond t x (fail code n c a σ)
+
+-- T-02: "faults 23, 24 and 25 carry as their number 1 for secrecy, 2 for integrity, 3 for both": what l's flow test to m
+-- answers
+abbrev pub checkFlow : Program → Label → Label → ℕ → Control → Account → Store → Next → Next
+checkFlow P l m code c a σ x = check (flowsIn P l m) code (P .flowTest l m) c a σ x
+
+-- the current label flows to l, and l to the clearance, with the code of each test's fault. "The first failing of its two
+-- tests speaks", and that one alone.
+abbrev pub checkBetween : Program → ℕ → ℕ → Label → Control → Account → Store → Next → Next
+checkBetween P first second l c a σ x = checkFlow P (a .label) l first c a σ (checkFlow P l (a .clearance) second c a σ x)
 
 -- 23 and 24 of SEAL, NEW, WRITE, BLOCK: the current label flows to the target, the target to the clearance
 abbrev pub checkTarget : Program → Label → Control → Account → Store → Next → Next
-checkTarget P l c a σ x = check (P .flows (a .label) l) 23 c a σ (check (P .flows l (a .clearance)) 24 c a σ x)
+checkTarget P l c a σ x = checkBetween P 23 24 l c a σ x
 
 -- 24 of RAISE, OPEN, READ: the raised label flows to the clearance
-abbrev checkRaise : Program → Label → Control → Account → Store → Next → Next
-checkRaise P l c a σ x = check (P .flows (P .join (a .label) l) (a .clearance)) 24 c a σ x
+abbrev pub checkRaise : Program → Label → Control → Account → Store → Next → Next
+checkRaise P l c a σ x = checkFlow P (P .join (a .label) l) (a .clearance) 24 c a σ x
 
 abbrev pub raised : Program → Label → Account → Account
 raised P l a = withLabel (P .join (a .label) l) a
@@ -99,7 +109,7 @@ contentsOf Spent = Fault 32 0
 
 -- "if the label at the end doesn't flow to the bound, fault 31 however it ended"
 unfoldable pub outcome : Program → Label → Outcome → Contents
-outcome P b o = cond (P .flows (o .account .label) b) (contentsOf (o .ending)) (Fault 31 0)
+outcome P b o = cond (flowsIn P (o .account .label) b) (contentsOf (o .ending)) (Fault 31 0)
 
 -- The outer run has paid n steps and k + 1 places, used or not; the first of these places gets the sealed outcome. Label
 -- and clearance are the outer run's own.
@@ -115,18 +125,17 @@ act P R c r a σ none = go r a σ
 act P R c r a σ (ends d) = stop (Result d) a σ
 act P R c r a σ (throws n) = fail 30 n c a σ
 act P R c r a σ (raises l) = checkRaise P l c a σ (go r (raised P l a) σ)
-act P R c r a σ (lowers l) =
-    check (P .flows (a .label) l && P .flows l (a .clearance)) 25 c a σ (go r (withClearance l a) σ)
+act P R c r a σ (lowers l) = checkBetween P 25 25 l c a σ (go r (withClearance l a) σ)
 act P R c r a σ (labels p) = labelSlot c r a σ (at σ p)
 act P R c r a σ (opens p) = openSlot P c r a σ (at σ p)
 act P R c r a σ (makes h l d) =
     checkTarget P l c a σ
-    (check (ltb (a .next) (a .limit)) 26 c a σ
+    (check (ltb (a .next) (a .limit)) 26 0 c a σ
     (go (push (Handle h (a .next)) r) (withNext (a .next + 1) a) (set σ (a .next) (holding h l (Holds d)))))
 act P R c r a σ (writes p d) = writeSlot P c r a σ p d (at σ p)
 act P R c r a σ (blocks b t n k) =
     checkTarget P b c a σ
-    (check (ltb (a .depth) 8) 28 c a σ
-    (check (leb n (a .steps)) 27 c a σ
-    (check (leb (a .next + 1 + k) (a .limit)) 26 c a σ
+    (check (ltb (a .depth) 8) 28 0 c a σ
+    (check (leb n (a .steps)) 27 0 c a σ
+    (check (leb (a .next + 1 + k) (a .limit)) 26 0 c a σ
     (sealOutcome P r a b n k (R (bodyControl t r) (bodyAccount n k a) σ)))))

@@ -6,7 +6,7 @@ use Prim.Native.Nat.{ℕ, _+_, _-_, _^_, _%_}
 use lib.Dec.{leb, ltb, eqb}
 use lib.ListN.{length, getD}
 use Rattle.labels.specs.declared.Label.{Label}
-use Rattle.model.specs.State.{Control, Program, number, withStack, withFrames, push, jump, setLocal}
+use Rattle.model.specs.State.{Control, Program, flowsIn, number, withStack, withFrames, push, jump, setLocal}
 use Rattle.model.specs.declared.Account.{Account}
 use Rattle.model.specs.declared.Kind.{Kind}
 use Rattle.model.specs.declared.Kind.the-variants.{Sealed, Reference}
@@ -150,7 +150,7 @@ operate P a c Cur = pushes (Labelled (a .label)) c
 operate P a c Clr = pushes (Labelled (a .clearance)) c
 operate P a c Raise = popLabel c (λ l r. asks r (raises l))
 operate P a c Lower = popLabel c (λ l r. asks r (lowers l))
-operate P a c Flows = popLabel c (λ m r. popLabel r (λ l q. pushes (truth (P .flows l m)) q))
+operate P a c Flows = popLabel c (λ m r. popLabel r (λ l q. pushes (truth (flowsIn P l m)) q))
 operate P a c Join = popLabel c (λ m r. popLabel r (λ l q. pushes (Labelled (P .join l m)) q))
 operate P a c Meet = popLabel c (λ m r. popLabel r (λ l q. pushes (Labelled (P .meet l m)) q))
 operate P a c Seal = popLabel c (λ l r. pop r (λ d q. asks q (makes Sealed l d)))

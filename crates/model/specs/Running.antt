@@ -2,7 +2,7 @@
 use mathlib.Core.List.{List, [], _++_}
 use Prim.Native.Nat.{ℕ, zero, suc, _-_}
 use lib.ListN.{length, replicate}
-use Rattle.labels.specs.Order.{flows, join, meet}
+use Rattle.labels.specs.Order.{flowTest, join, meet}
 use Rattle.labels.specs.declared.Label.{Label}
 use Rattle.model.specs.State.{Control, Store, Program, Outcome, Runner, number, jump, withSteps}
 use Rattle.model.specs.declared.Account.{Account}
@@ -44,7 +44,7 @@ runs P c a σ = run P (a .steps) c a σ
 -- a file's program: its code, its labels and its input records. The order is that of labels.
 abbrev pub programOf : List ℕ → (ℕ → Label) → List Input → Program
 programOf code ls xs =
-    record { flows = flows; join = join; meet = meet; fetch = fetch code; after = after code; labels = ls; inputs = handles 0 xs }
+    record { flowTest = flowTest; join = join; meet = meet; fetch = fetch code; after = after code; labels = ls; inputs = handles 0 xs }
 
 abbrev pub startControl : Control
 startControl = record { pc = 0; stack = []; locals = replicate 16 (number 0); frames = [] }

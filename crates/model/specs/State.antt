@@ -4,6 +4,7 @@ use mathlib.Core.Bool.{Bool, cond}
 use mathlib.Core.List.{List, _∷_}
 use Prim.Native.Nat.{ℕ}
 use lib.ListN.{getD, set}
+use Rattle.labels.specs.Order.{flowsBy}
 use Rattle.labels.specs.declared.Label.{Label}
 use Rattle.model.specs.declared.Datum.{Datum}
 use Rattle.model.specs.declared.Datum.the-variants.{Number}
@@ -78,7 +79,8 @@ shown Sees (Full r) = cond (Sees (r .label)) (Full r) Empty
 -- The order of labels, the code, the file's labels and the handles of its input records. The order is a parameter: all
 -- that is shown of the machine is shown for any order with the laws that it names.
 pub record Program : Type 0 where
-  pub flows : Label → Label → Bool
+  -- which half keeps one label from flowing to another: 0 none, 1 secrecy, 2 integrity, 3 both
+  pub flowTest : Label → Label → ℕ
   pub join : Label → Label → Label
   pub meet : Label → Label → Label
   pub fetch : ℕ → Instr
@@ -86,6 +88,10 @@ pub record Program : Type 0 where
   pub after : ℕ → ℕ
   pub labels : ℕ → Label
   pub inputs : List Value
+
+-- by the program's order, one label flows to another
+abbrev pub flowsIn : Program → Label → Label → Bool
+flowsIn P = flowsBy (P .flowTest)
 
 pub record Outcome : Type 0 where
   pub ending : Ending

@@ -37,9 +37,12 @@ use Rattle.operands.specs.Program.{count}
 abbrev pub decided : ℕ → Effect → Decision
 decided k e = record { takes = k; effect = e }
 
--- a fault that raises no label, with number 0
+-- a fault that raises no label
+abbrev pub thrown : ℕ → ℕ → Decision
+thrown code n = decided 0 (Fault NotRaised code n)
+
 abbrev pub faulty : ℕ → Decision
-faulty code = decided 0 (Fault NotRaised code 0)
+faulty code = thrown code 0
 
 -- ── numbers: 22 where an operand is another ──
 
@@ -64,7 +67,7 @@ numbersOf f y x = onNumber y (λ b. onNumber x (λ a. arithOf f b a))
 
 abbrev pub testOf : Test → ℕ → Decision
 testOf (Branch t) n = cond (eqb n 0) (decided 1 (Jumps t)) (decided 1 Drop)
-testOf Throws n = decided 0 (Fault NotRaised 30 n)
+testOf Throws n = thrown 30 n
 
 abbrev pub numberOf : Test → Datum → Decision
 numberOf f y = onNumber y (testOf f)

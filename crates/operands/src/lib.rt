@@ -9,7 +9,7 @@ ghost use Prim.Native.Nat.{_^_, _<_};
 ghost use lib.ListN.{length, getD};
 ghost use Rattle.model.specs.Inputs.{kindOf};
 ghost use Rattle.model.specs.Words.{labelIn};
-ghost use Rattle.operands.specs.Tasks.{decided, faulty, bitOf, arithOf, numbersOf, testOf, numberOf, onNumbers, labelOf, pairOf, labelsOf, shortOf, pushOf, tryOf, doneOf, inputOf, taskOf};
+ghost use Rattle.operands.specs.Tasks.{decided, thrown, faulty, bitOf, arithOf, numbersOf, testOf, numberOf, onNumbers, labelOf, pairOf, labelsOf, shortOf, pushOf, tryOf, doneOf, inputOf, taskOf};
 
 // Where a label lies that is to be pushed.
 pub enum Origin {
@@ -133,11 +133,18 @@ pub fn decides(takes: usize, effect: Effect) -> Decision
     Decision { takes, effect }
 }
 
+// A fault that raises no label.
+pub fn thrown(code: u32, number: u32) -> Decision
+    ensures { λ r. ⌜ r ≡ thrown code number ⌝ }
+{
+    decides(0, Effect::Fault(By::None, code, number))
+}
+
 // A fault that raises no label, with number 0.
 pub fn faulty(code: u32) -> Decision
     ensures { λ r. ⌜ r ≡ faulty code ⌝ }
 {
-    decides(0, Effect::Fault(By::None, code, 0))
+    thrown(code, 0)
 }
 
 // ---- numbers
@@ -188,7 +195,7 @@ fn tested(f: Test, n: u32) -> Decision
             }
             decides(1, Effect::Drop)
         }
-        Test::Throw => decides(0, Effect::Fault(By::None, 30, n)),
+        Test::Throw => thrown(30, n),
     }
 }
 
