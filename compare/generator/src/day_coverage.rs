@@ -159,11 +159,11 @@ impl Rules for DayCoverage {
         raised
     }
 
-    fn unopened(&self, opcode: u8, content: Content) -> Fault {
+    fn unopened(&self, opcode: u8, content: Content, fault: Fault) -> Fault {
         if (opcode, content) == (READ, GONE) {
             self.reach(Point::Uncleared);
         }
-        Paper.unopened(opcode, content)
+        Paper.unopened(opcode, content, fault)
     }
 
     fn passes_over(&self, opcode: u8, content: Content) -> Result<(), Fault> {
@@ -173,8 +173,8 @@ impl Rules for DayCoverage {
         Ok(())
     }
 
-    fn outcome(&self, ending: Ending, within_bound: bool) -> Content {
-        let outcome = Paper.outcome(ending, within_bound);
+    fn outcome(&self, ending: Ending, to_bound: u32) -> Content {
+        let outcome = Paper.outcome(ending, to_bound);
         if outcome == GONE {
             self.reach(Point::Sealed);
         }
