@@ -8,19 +8,21 @@ use reference::script::{Clauses, Code, Input};
 use reference::value::Fault;
 
 pub fn cases() -> Vec<DayCase> {
+    let lowered = |targets: &[usize]| targets.iter().map(|&target| (LOWER, target)).collect::<Vec<_>>();
     vec![
-        told("23 of a day's jobs", &[(SEAL, 0), (NEW, 1), (WRITE, 2), (BLOCK, 7)]),
+        told("23 of a day's jobs", &[(SEAL, 0), (NEW, 1), (WRITE, 2), (BLOCK, 1)]),
+        told(
+            "23 of a day's jobs, where 24 would tell another half",
+            &[(SEAL, 6), (NEW, 7), (BLOCK, 10), (SEAL, 11), (NEW, 12), (BLOCK, 13)],
+        ),
         told("24 of targets of a day's jobs", &[(SEAL, 3), (NEW, 4), (WRITE, 5), (BLOCK, 4)]),
         told(
             "24 of raised labels of a day's jobs",
-            &[(RAISE, 3), (OPEN, 4), (READ, 5), (OPEN, 6), (READ, 7)],
+            &[(RAISE, 4), (OPEN, 3), (READ, 4), (READ, 5), (OPEN, 7)],
         ),
-        told("25 of a day's jobs", &[(LOWER, 0), (LOWER, 1), (LOWER, 2), (LOWER, 3), (LOWER, 4), (LOWER, 5)]),
-        told(
-            "25 of a day's jobs, by the first of two tests",
-            &[(LOWER, 6), (LOWER, 7), (LOWER, 10), (LOWER, 11), (LOWER, 12), (LOWER, 13)],
-        ),
-        told("25 of both halves, shown", &[(LOWER, 2)]),
+        told("25 of a day's jobs", &lowered(&[0, 1, 2, 3, 4, 5])),
+        told("25 of a day's jobs, by the first of two tests", &lowered(&[6, 7, 10, 11, 12, 13])),
+        told("25 of both halves, shown", &lowered(&[2])),
         handed_on(),
         sealed(),
     ]
