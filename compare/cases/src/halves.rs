@@ -28,13 +28,13 @@ const ABOVE: Position = Position { name: "above", secrecy: &[1, 2, 8, 32], integ
 const ASIDE: Position = Position { name: "aside", secrecy: &[4], integrity: &[1] };
 
 /// The player's, vouched for by the bench.
-pub fn start() -> Clauses {
+fn start() -> Clauses {
     Clauses::new(&[1], &[4])
 }
 
 /// The player's, the dealer's and the archive's, vouched for by the bench, the
 /// archive or the record company.
-pub fn clearance() -> Clauses {
+fn clearance() -> Clauses {
     Clauses::new(&[1, 2, 8], &[28])
 }
 
@@ -53,7 +53,7 @@ const fn target(secrecy: Position, integrity: Position, from_start: u32, to_clea
 }
 
 /// All pairs of answers but for two times 0.
-pub const TARGETS: [Target; 15] = [
+const TARGETS: [Target; 15] = [
     target(BELOW, WITHIN, 1, 0),
     target(WITHIN, BELOW, 2, 0),
     target(BELOW, BELOW, 3, 0),
@@ -71,11 +71,17 @@ pub const TARGETS: [Target; 15] = [
     target(ASIDE, ASIDE, 3, 3),
 ];
 
-/// The first of them show each answer, and each of two answers as the one told.
+/// So many of the first have each answer of one test, and two that differ.
 const FEW: usize = 8;
 
+/// The one of them with these answers.
+pub fn answering(from_start: u32, to_clearance: u32) -> Target {
+    let answers = |target: &&Target| (target.from_start, target.to_clearance) == (from_start, to_clearance);
+    *TARGETS.iter().find(answers).expect("a test that fails")
+}
+
 impl Target {
-    pub fn clauses(&self) -> Clauses {
+    fn clauses(&self) -> Clauses {
         Clauses::new(self.secrecy.secrecy, self.integrity.integrity)
     }
 
@@ -99,8 +105,8 @@ impl Target {
     }
 }
 
-/// The label with the target's index `at`, the start and the clearance going before,
-/// and its two records.
+/// The label of the target with index `at` in a file; the start and the clearance go
+/// before.
 pub fn label(at: u8) -> u8 {
     2 + at
 }
@@ -172,8 +178,8 @@ fn lowered() -> Vec<Case> {
     TARGETS.iter().map(|&target| uncaught(LOWER, target)).collect()
 }
 
-/// 24 of the label that the instruction would raise to. Where one half of the target
-/// is within, the current label does not have it, and the clearance does.
+/// 24 of the label that the instruction would raise to. What is within the clearance is
+/// above the current label all the same, so that the test to that one would tell more.
 fn raised() -> Vec<Case> {
     let above = || TARGETS[..FEW].iter().filter(|target| target.to_clearance != 0);
     [RAISE, OPEN, READ]
@@ -184,8 +190,7 @@ fn raised() -> Vec<Case> {
 
 /// What a handler gets on top of the stack.
 fn caught() -> Vec<Case> {
-    let tried = |opcode: u8, at: usize, result: u32, pops: Write| {
-        let target = TARGETS[at];
+    let tried = |opcode: u8, target: Target, result: u32, pops: Write| {
         let name = format!("caught, {result}: {}", target.name(opcode));
         on(name, target, Expected::number(result), |code| {
             let handler = code.target();
@@ -200,25 +205,25 @@ fn caught() -> Vec<Case> {
     let number = |_: &mut Code| ();
     let below = |code: &mut Code| _ = code.op(POP);
     vec![
-        tried(SEAL, 2, 3, number),
-        tried(WRITE, 0, 1, number),
-        tried(BLOCK, 7, 2, number),
-        tried(NEW, 4, 2, number),
-        tried(RAISE, 3, 1, number),
-        tried(OPEN, 4, 2, number),
-        tried(READ, 5, 3, number),
-        tried(LOWER, 6, 1, number),
-        tried(LOWER, 7, 2, number),
-        tried(LOWER, 2, 3, number),
-        tried(LOWER, 2, 25, below),
-        tried(OPEN, 5, 24, below),
+        tried(SEAL, answering(3, 0), 3, number),
+        tried(WRITE, answering(1, 0), 1, number),
+        tried(BLOCK, answering(2, 1), 2, number),
+        tried(NEW, answering(0, 2), 2, number),
+        tried(RAISE, answering(0, 1), 1, number),
+        tried(OPEN, answering(0, 2), 2, number),
+        tried(READ, answering(0, 3), 3, number),
+        tried(LOWER, answering(1, 2), 1, number),
+        tried(LOWER, answering(2, 1), 2, number),
+        tried(LOWER, answering(3, 0), 3, number),
+        tried(LOWER, answering(3, 0), 25, below),
+        tried(OPEN, answering(0, 3), 24, below),
     ]
 }
 
 /// A block with the current label as its bound, and then `after`; the body's
 /// instruction faults.
-fn in_block(name: &str, opcode: u8, at: usize, expected: Expected, after: Write) -> Case {
-    on(name, TARGETS[at], expected, |code| {
+fn in_block(name: &str, opcode: u8, target: Target, expected: Expected, after: Write) -> Case {
+    on(name, target, expected, |code| {
         let body = code.target();
         code.op(CUR).block(body, 9, 0);
         after(code);
@@ -230,51 +235,26 @@ fn in_block(name: &str, opcode: u8, at: usize, expected: Expected, after: Write)
 
 /// A body's fault is sealed with its number, and OPEN throws it with that.
 fn sealed() -> Vec<Case> {
-    let open = |code: &mut Code| _ = code.op(OPEN);
-    let caught = |code: &mut Code| {
-        let handler = code.target();
-        code.try_to(handler).op(OPEN).place(handler);
+    let opened = |name: &str, opcode: u8, target: Target, fault: Fault| {
+        let name = format!("OPEN throws a sealed {name}");
+        in_block(&name, opcode, target, Expected::thrown(fault), |code| _ = code.op(OPEN))
     };
-    let first_place = Expected::Ends(Ending::Result(Value::Sealed(2)));
+    let caught = |name: &str, opcode: u8, target: Target, number: u32| {
+        in_block(name, opcode, target, Expected::number(number), |code| {
+            let handler = code.target();
+            code.try_to(handler).op(OPEN).place(handler);
+        })
+    };
+    let handle = Expected::Ends(Ending::Result(Value::Sealed(2)));
     vec![
-        in_block("a sealed 24 of integrity", OPEN, 4, first_place, |_| ()),
-        in_block(
-            "OPEN throws a sealed 24 of integrity",
-            OPEN,
-            4,
-            Expected::thrown(Fault::above_clearance(2)),
-            open,
-        ),
-        in_block(
-            "OPEN throws a sealed 24 of secrecy",
-            RAISE,
-            3,
-            Expected::thrown(Fault::above_clearance(1)),
-            open,
-        ),
-        in_block(
-            "OPEN throws a sealed 23 of both halves",
-            SEAL,
-            2,
-            Expected::thrown(Fault::above_target(3)),
-            open,
-        ),
-        in_block(
-            "OPEN throws a sealed 25 of both halves",
-            LOWER,
-            12,
-            Expected::thrown(Fault::bad_lower(3)),
-            open,
-        ),
-        in_block(
-            "OPEN throws a sealed 25 of integrity",
-            LOWER,
-            7,
-            Expected::thrown(Fault::bad_lower(2)),
-            open,
-        ),
-        in_block("the number of a sealed 24, caught", OPEN, 4, Expected::number(2), caught),
-        in_block("the number of a sealed 23, caught", NEW, 7, Expected::number(2), caught),
+        in_block("a sealed 24 of integrity", OPEN, answering(0, 2), handle, |_| ()),
+        opened("24 of integrity", OPEN, answering(0, 2), Fault::above_clearance(2)),
+        opened("24 of secrecy", RAISE, answering(0, 1), Fault::above_clearance(1)),
+        opened("23 of both halves", SEAL, answering(3, 0), Fault::above_target(3)),
+        opened("25 of both halves", LOWER, answering(3, 1), Fault::bad_lower(3)),
+        opened("25 of integrity", LOWER, answering(2, 1), Fault::bad_lower(2)),
+        caught("the number of a sealed 24, caught", OPEN, answering(0, 2), 2),
+        caught("the number of a sealed 23, caught", NEW, answering(2, 1), 2),
     ]
 }
 
