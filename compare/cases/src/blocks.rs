@@ -21,7 +21,7 @@ fn opened(name: &str, expected: Expected, bound: u8, steps: u16, write: impl FnO
 
 fn outcomes() -> Vec<Case> {
     let sealed_player = |code: &mut Code| _ = code.input(record::SEALED_PLAYER).op(OPEN);
-    let thrown = |number| Expected::Ends(Ending::Fault(Fault::thrown(number)));
+    let thrown = |number| Expected::thrown(Fault::thrown(number));
     vec![
         opened("the result", Expected::number(5), label::PUBLIC, 2, |code| _ = code.push(5).end()),
         opened("the uncaught fault", thrown(5), label::PUBLIC, 2, |code| _ = code.push(5).op(THROW)),
@@ -91,34 +91,29 @@ fn isolation() -> Vec<Case> {
 
 /// OPEN throws each fault there is out of an outcome.
 fn sealed_faults() -> Vec<Case> {
-    let bodies: [(u8, Write); 8] = [
-        (20, |code| _ = code.op(POP)),
-        (21, |code| {
+    let bodies: [(Fault, Write); 8] = [
+        (Fault::TOO_FEW_OPERANDS, |code| _ = code.op(POP)),
+        (Fault::STACK_FULL, |code| {
             let again = code.here();
             code.push(1).jump(again);
         }),
-        (22, |code| _ = code.lab(label::PUBLIC).op(THROW)),
-        (23, |code| _ = code.push(1).lab(label::VOUCHED).op(SEAL)),
-        (24, |code| _ = code.lab(label::ABOVE).op(RAISE)),
-        (25, |code| _ = code.lab(label::ABOVE).op(LOWER)),
-        (26, |code| {
+        (Fault::WRONG_KIND, |code| _ = code.lab(label::PUBLIC).op(THROW)),
+        (Fault::above_target(2), |code| _ = code.push(1).lab(label::VOUCHED).op(SEAL)),
+        (Fault::above_clearance(1), |code| _ = code.lab(label::ABOVE).op(RAISE)),
+        (Fault::bad_lower(1), |code| _ = code.lab(label::ABOVE).op(LOWER)),
+        (Fault::NO_PLACE, |code| {
             let again = code.here();
             code.push(1).lab(label::PUBLIC).ops(&[NEW, POP]).jump(again);
         }),
-        (29, |code| _ = code.op(DONE)),
+        (Fault::FRAMES, |code| _ = code.op(DONE)),
     ];
     let mut cases = Vec::new();
-    for (code, write) in bodies {
-        cases.push(opened(
-            &format!("OPEN throws {code}"),
-            Expected::fault(code),
-            label::PUBLIC,
-            90,
-            |script| {
-                write(script);
-                script.push(1).end();
-            },
-        ));
+    for (fault, write) in bodies {
+        let name = format!("OPEN throws {}", fault.code);
+        cases.push(opened(&name, Expected::thrown(fault), label::PUBLIC, 90, |code| {
+            write(code);
+            code.push(1).end();
+        }));
     }
     cases.push(opened("OPEN throws 27", Expected::fault(27), label::PUBLIC, 9, |code| {
         let body = code.target();

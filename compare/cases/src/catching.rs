@@ -73,7 +73,7 @@ fn frames() -> Vec<Case> {
             code.place(inner).push(5).end();
             code.place(outer).end();
         }),
-        case("a body's frames end with it", Expected::Ends(Ending::Fault(Fault::thrown(3))), |code| {
+        case("a body's frames end with it", Expected::thrown(Fault::thrown(3)), |code| {
             let (body, handler) = (code.target(), code.target());
             code.lab(label::PUBLIC).block(body, 9, 0).op(OPEN).op(THROW);
             code.place(handler).push(5).end();

@@ -2,6 +2,7 @@
 
 pub mod admission;
 pub mod code;
+pub mod halves;
 pub mod handles;
 pub mod jobs;
 pub mod refusals;
@@ -44,6 +45,7 @@ pub fn all() -> Vec<DayCase> {
         admission::cases(),
         store::cases(),
         handles::cases(),
+        halves::cases(),
         views::cases(),
     ]
     .concat()
@@ -99,7 +101,12 @@ fn number(number: u32) -> JobEnds {
 
 /// An uncaught fault whose number is 0.
 fn fault(code: u8) -> JobEnds {
-    JobEnds::Ends(Ending::Fault(Fault::plain(code)))
+    thrown(Fault::plain(code))
+}
+
+/// An uncaught fault.
+fn thrown(fault: Fault) -> JobEnds {
+    JobEnds::Ends(Ending::Fault(fault))
 }
 
 fn refused(name: impl Into<String>, refusal: u8, day: &DayScript) -> DayCase {

@@ -1,22 +1,13 @@
-//! Every instruction with every fault that it can throw of itself.
+//! Every instruction with every fault that it can throw of itself; 23, 24 and 25 are
+//! in [`crate::halves`].
 
 use crate::{case, label, record, tuned, Case, Expected, Write};
 use reference::opcode::*;
 use reference::script::Code;
-use reference::value::{Ending, Fault};
+use reference::value::Fault;
 
 pub fn cases() -> Vec<Case> {
-    [
-        too_few_operands(),
-        stack_full(),
-        wrong_kind(),
-        frames(),
-        made_records(),
-        labels(),
-        resources(),
-        thrown(),
-    ]
-    .concat()
+    [too_few_operands(), stack_full(), wrong_kind(), frames(), resources(), thrown()].concat()
 }
 
 fn faults(code: u8, opcode: u8, detail: &str, write: impl FnOnce(&mut Code)) -> Case {
@@ -163,58 +154,6 @@ fn frames() -> Vec<Case> {
     ]
 }
 
-/// Faults 23 and 24 of the instructions that make a record.
-fn made_records() -> Vec<Case> {
-    let raise = |code: &mut Code| _ = code.lab(label::PLAYER).op(RAISE);
-    let mut cases = Vec::new();
-    for opcode in [SEAL, NEW] {
-        cases.push(faults(23, opcode, "to a lower secrecy", |code| {
-            raise(code);
-            code.push(1).lab(label::DEALER).op(opcode);
-        }));
-        cases.push(faults(23, opcode, "to a higher integrity", |code| {
-            code.push(1).lab(label::VOUCHED).op(opcode);
-        }));
-        cases.push(faults(24, opcode, "above the clearance", |code| {
-            code.push(1).lab(label::ABOVE).op(opcode);
-        }));
-    }
-    cases
-}
-
-/// Faults 23, 24 and 25 of all others.
-fn labels() -> Vec<Case> {
-    let raise = |code: &mut Code| _ = code.lab(label::PLAYER).op(RAISE);
-    vec![
-        faults(23, WRITE, "to a lower secrecy", |code| {
-            raise(code);
-            code.push(1).input(record::REFERENCE_PUBLIC).op(WRITE);
-        }),
-        faults(24, WRITE, "above the clearance", |code| {
-            code.push(1).input(record::REFERENCE_ABOVE).op(WRITE);
-        }),
-        faults(23, BLOCK, "with a lower bound", |code| {
-            raise(code);
-            bare(code, LAB);
-            bare(code, BLOCK);
-        }),
-        faults(24, BLOCK, "with a bound above the clearance", |code| {
-            code.lab(label::ABOVE);
-            bare(code, BLOCK);
-        }),
-        faults(24, RAISE, "above the clearance", |code| _ = code.lab(label::ABOVE).op(RAISE)),
-        faults(24, OPEN, "above the clearance", |code| _ = code.input(record::SEALED_ABOVE).op(OPEN)),
-        faults(24, READ, "above the clearance", |code| _ = code.input(record::REFERENCE_ABOVE).op(READ)),
-        faults(25, LOWER, "below the label", |code| {
-            raise(code);
-            code.lab(label::DEALER).op(LOWER);
-        }),
-        faults(25, LOWER, "above the old clearance", |code| {
-            code.lab(label::DEALER).op(LOWER).lab(label::PLAYER).op(LOWER);
-        }),
-    ]
-}
-
 /// Faults 26 and 27; for 28 see the nested blocks.
 fn resources() -> Vec<Case> {
     let full = |opcode: u8| {
@@ -241,9 +180,9 @@ fn resources() -> Vec<Case> {
 }
 
 fn thrown() -> Vec<Case> {
-    let fault = |number| Expected::Ends(Ending::Fault(Fault::thrown(number)));
     let throw = |number: u32| {
-        case(format!("30 THROW of {number}"), fault(number), |code| _ = code.push(number).op(THROW))
+        let expected = Expected::thrown(Fault::thrown(number));
+        case(format!("30 THROW of {number}"), expected, |code| _ = code.push(number).op(THROW))
     };
     vec![throw(0), throw(8), throw(u32::MAX)]
 }

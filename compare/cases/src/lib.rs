@@ -5,6 +5,7 @@ pub mod bounds;
 pub mod catching;
 pub mod days;
 pub mod faults;
+pub mod halves;
 pub mod order;
 pub mod paper;
 pub mod refusals;
@@ -33,7 +34,12 @@ impl Expected {
 
     /// An uncaught fault whose number is 0.
     pub fn fault(code: u8) -> Expected {
-        Expected::Ends(Ending::Fault(Fault::plain(code)))
+        Expected::thrown(Fault::plain(code))
+    }
+
+    /// An uncaught fault.
+    pub fn thrown(fault: Fault) -> Expected {
+        Expected::Ends(Ending::Fault(fault))
     }
 }
 
@@ -47,6 +53,7 @@ pub fn all() -> Vec<Case> {
         refusals::cases(),
         values::cases(),
         faults::cases(),
+        halves::cases(),
         order::cases(),
         catching::cases(),
         blocks::cases(),

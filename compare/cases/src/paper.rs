@@ -4,7 +4,7 @@
 use crate::{case, label, record, tuned, Case, Expected};
 use reference::opcode::{OPEN, POP};
 use reference::script::{Clauses, Code, Input, Script};
-use reference::value::Ending;
+use reference::value::{Ending, Fault};
 
 pub fn cases() -> Vec<Case> {
     let mut cases = vec![example(), p9(), p10(), p11(), p12()];
@@ -39,7 +39,9 @@ fn one_record(code: &Code, clearance: &[u8], places: u16) -> Script {
 pub fn p9() -> Case {
     let mut code = Code::new();
     code.input(0).op(OPEN).end();
-    Case { name: "P9".into(), file: one_record(&code, &[], 1).bytes(), expected: Expected::fault(24) }
+    // Public clearance, True, does not imply the player's secrecy.
+    let expected = Expected::thrown(Fault::above_clearance(1));
+    Case { name: "P9".into(), file: one_record(&code, &[], 1).bytes(), expected }
 }
 
 pub fn p10() -> Case {

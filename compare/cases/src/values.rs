@@ -81,6 +81,7 @@ fn labels() -> Vec<Case> {
         flows("vouched flows to public", label::VOUCHED, label::PUBLIC, 1),
         flows("public does not flow to vouched", label::PUBLIC, label::VOUCHED, 0),
         flows("neither of two flows to the other", label::PLAYER, label::DEALER, 0),
+        flows("secret does not flow to vouched", label::PLAYER, label::VOUCHED, 0),
         flows("a label flows to itself", label::PLAYER, label::PLAYER, 1),
         gives("JOIN", table(0x8888_8888_8888_8888), |code| {
             code.lab(label::PLAYER).lab(label::DEALER).op(JOIN);

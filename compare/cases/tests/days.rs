@@ -147,6 +147,21 @@ fn a_hidden_33_hides_the_run() {
     assert!(lines[9].starts_with(&front), "{}", lines[9]);
 }
 
+/// The job cannot lower its clearance to what is less secret and better vouched for;
+/// the records are labelled so, and flow to every reader. The run does not flow to the
+/// last one, which reads with that label.
+#[test]
+fn a_25_is_shown_with_both_halves() {
+    let records = ["00 00", "01 01"].map(|head| format!("{head} {TRUE} 00f000f000f000f0 0100"));
+    let records = format!("{} 0700000000000000 {ZERO} {} 0800000000000000 {ZERO}", records[0], records[1]);
+    let fault = "0500 1900000000000000 0300000000000000";
+    let labels = format!("{PLAYER} f0f0f0f0f0f0f0f0 0088008800880088 f0fffffff0ffffff");
+    let shown = format!("0200 0200 0200 0200 3e00 8600 {fault} {labels} {records}");
+    let zeros = [ZERO; 6].join(" ");
+    let hidden = format!("0000 0000 0000 0200 3e00 8600 0000 {zeros} {records}");
+    assert_eq!(lines("25 of both halves, shown"), [shown.clone(), shown, hidden]);
+}
+
 /// The last reader, vouched for by the bench, is not shown a public run.
 #[test]
 fn steps_used_are_the_job_s_own() {

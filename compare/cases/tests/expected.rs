@@ -28,6 +28,8 @@ fn names_tell_cases_apart() {
 const TRUE: &str = "ffffffffffffffff";
 const PLAYER: &str = "aaaaaaaaaaaaaaaa";
 const ZERO: &str = "0000000000000000";
+const ONE: &str = "0100000000000000";
+const TWO: &str = "0200000000000000";
 
 #[test]
 fn example() {
@@ -45,7 +47,7 @@ fn player_record() -> String {
 fn p9_faults_and_the_record_is_hidden_from_the_public() {
     let front = |shown: &str, length: &str| {
         format!(
-            "0200 0200 0100 {shown} 3e00 {length} 0500 1800000000000000 {ZERO} {TRUE} {TRUE} {TRUE} {TRUE}"
+            "0200 0200 0100 {shown} 3e00 {length} 0500 1800000000000000 {ONE} {TRUE} {TRUE} {TRUE} {TRUE}"
         )
     };
     let public = front("0000", "3e00") + "\n";
@@ -88,4 +90,26 @@ fn p12_is_spent_after_one_step() {
     let public = front("0000", "3e00") + "\n";
     let player = format!("{} {}\n", front("0100", "6200"), player_record());
     assert_eq!(print::lines(&paper::p12().file), public.clone() + &public + &player);
+}
+
+/// The body opens a record of the player's and dealer's that no one vouches for; the
+/// outcome, in place 2, bears the starting label, which flows to every reader.
+#[test]
+fn a_sealed_24_is_shown_with_its_half() {
+    let name = "a sealed 24 of integrity";
+    let case = all().into_iter().find(|case| case.name == name).expect("a case of this name");
+    let start = format!("{PLAYER} f0f0f0f0f0f0f0f0");
+    // CUR, BLOCK with its 9 steps, END.
+    let front = |shown: &str, length: &str| {
+        let result = format!("0300 {TWO} {ZERO}");
+        format!("0100 0c00 0300 {shown} 3e00 {length} {result} {start} 0088008800880088 f0fffffff0ffffff")
+    };
+    let input = |head: &str, number: &str| {
+        format!("{head} 8888888888888888 {TRUE} 0100 {number}00000000000000 {ZERO}")
+    };
+    let outcome = format!("02 00 {start} 0500 1800000000000000 {TWO}");
+    let below = format!("{} {outcome}\n", front("0100", "6200"));
+    let inputs = format!("{} {}", input("00 00", "07"), input("01 01", "08"));
+    let above = format!("{} {inputs} {outcome}\n", front("0300", "aa00"));
+    assert_eq!(print::lines(&case.file), below.clone() + &below + &above);
 }

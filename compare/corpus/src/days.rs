@@ -16,8 +16,8 @@ const LONGEST_LINES: usize = 12_000;
 const TOO_LONG: &str = "a day of 65,536 bytes";
 const LONG: usize = 60_000;
 
-const VALID_DAYS: usize = 60;
-const PAIRS: usize = 25;
+const VALID_DAYS: usize = 45;
+const PAIRS: usize = 18;
 const INVALID_DAYS: usize = 4;
 
 /// All days, alike pairs side by side.

@@ -14,8 +14,8 @@ use reference::batch;
 const LONGEST_FILE: usize = 450;
 const LONGEST_LINES: usize = 6_000;
 
-const VALID_FILES: usize = 130;
-const PAIRS: usize = 60;
+const VALID_FILES: usize = 105;
+const PAIRS: usize = 55;
 const INVALID_FILES: usize = 8;
 const EXHAUSTED_FILES: usize = 2;
 

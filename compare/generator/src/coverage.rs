@@ -1,6 +1,7 @@
 //! What a set of files reaches: instructions, the faults they throw, the faults
 //! that OPEN throws out of outcomes, what happens inside blocks, refusals.
 
+use crate::halves::{self, Half};
 use reference::label::Label;
 use reference::limits::{header, view, MAX_VIEW, NESTED_BLOCKS};
 use reference::opcode::*;
@@ -18,6 +19,7 @@ use std::fmt;
 pub enum Point {
     Obeyed(Opcode),
     Threw(Opcode, FaultCode),
+    Half(Half),
     /// OPEN threw a fault that a body had ended with.
     Unsealed(FaultCode),
     /// OPEN or READ gave a handle.
@@ -61,8 +63,12 @@ pub fn all_points() -> Vec<Point> {
         if opcode != THROW {
             points.push(Point::Obeyed(opcode));
         }
-        points.extend(own_faults(opcode).iter().map(|&fault| Point::Threw(opcode, fault)));
+        for &fault in own_faults(opcode) {
+            points.push(Point::Threw(opcode, fault));
+            points.extend(halves::told_by(opcode, fault).map(Point::Half));
+        }
     }
+    points.extend(halves::of_any().map(Point::Half));
     points.extend((20..=32).map(Point::Unsealed));
     points.extend((1..=NESTED_BLOCKS).map(Point::Entered));
     for of_depth in [Point::Caught, Point::Spent] {
@@ -141,10 +147,16 @@ impl Rules for Coverage {
 
     fn obeyed(&self, run: &mut Run, opcode: u8, fault: Option<Fault>) {
         let unsealing = self.unsealing.take();
-        match fault.map(|fault| fault.code) {
+        match fault {
             None => self.reach(Point::Obeyed(opcode)),
-            Some(fault) if unsealing => return self.reach(Point::Unsealed(fault)),
-            Some(fault) => return self.reach(Point::Threw(opcode, fault)),
+            Some(fault) if unsealing => return self.reach(Point::Unsealed(fault.code)),
+            Some(fault) => {
+                self.reach(Point::Threw(opcode, fault.code));
+                halves::reached(run, opcode, fault)
+                    .into_iter()
+                    .for_each(|half| self.reach(Point::Half(half)));
+                return;
+            }
         }
         if opcode == LOWER {
             self.reach(Point::Lowered(run.depth));
@@ -162,8 +174,16 @@ impl fmt::Display for Coverage {
             write!(f, "{:<6} done {}", shape.name, self.count(Point::Obeyed(opcode)))?;
             for &fault in own_faults(opcode) {
                 write!(f, ", {fault}: {}", self.count(Point::Threw(opcode, fault)))?;
+                let told: Vec<u64> =
+                    halves::told_by(opcode, fault).map(|half| self.count(Point::Half(half))).collect();
+                if let [secrecy, integrity, both] = told[..] {
+                    write!(f, " (1: {secrecy}, 2: {integrity}, 3: {both})")?;
+                }
             }
             writeln!(f)?;
+        }
+        for half in halves::of_any() {
+            writeln!(f, "{half:?}: {}", self.count(Point::Half(half)))?;
         }
         let mut row = |name: &str, points: &mut dyn Iterator<Item = (usize, Point)>| {
             let counts: Vec<String> =

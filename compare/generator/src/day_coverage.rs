@@ -1,6 +1,7 @@
-//! What a set of days reaches: refusals, skipped jobs, and what becomes of
-//! handles whose records are gone.
+//! What a set of days reaches: refusals, skipped jobs, what becomes of handles
+//! whose records are gone, and what failed flow tests tell.
 
+use crate::halves::{self, Half};
 use reference::day::Day;
 use reference::day_rules::DayRules;
 use reference::label::Label;
@@ -47,6 +48,7 @@ pub enum Point {
     /// READ gave what another job wrote, a handle too.
     Read,
     ReadHandle,
+    Half(Half),
 }
 
 type Opcode = u8;
@@ -60,6 +62,7 @@ pub fn all_points() -> Vec<Point> {
     points.extend([Read, ReadHandle]);
     points.extend((1..=4).chain(6..=10).map(Refused));
     points.extend((1..=3).map(Ended));
+    points.extend(halves::of_any().map(Point::Half));
     points
 }
 
@@ -72,6 +75,8 @@ pub struct DayCoverage {
     skipped: Cell<bool>,
     /// Whether a job of the day has ended.
     later: Cell<bool>,
+    /// Set between the raise of an OPEN or READ and the fault that it found.
+    finding: Cell<bool>,
 }
 
 impl DayCoverage {
@@ -156,14 +161,15 @@ impl Rules for DayCoverage {
         if raiser == Raiser::Read && self.later.get() {
             self.reach(Point::Read);
         }
+        self.finding.set(matches!(raiser, Raiser::OpenFault | Raiser::ReadFault));
         raised
     }
 
-    fn unopened(&self, opcode: u8, content: Content) -> Fault {
+    fn unopened(&self, opcode: u8, content: Content, fault: Fault) -> Fault {
         if (opcode, content) == (READ, GONE) {
             self.reach(Point::Uncleared);
         }
-        Paper.unopened(opcode, content)
+        Paper.unopened(opcode, content, fault)
     }
 
     fn passes_over(&self, opcode: u8, content: Content) -> Result<(), Fault> {
@@ -173,8 +179,8 @@ impl Rules for DayCoverage {
         Ok(())
     }
 
-    fn outcome(&self, ending: Ending, within_bound: bool) -> Content {
-        let outcome = Paper.outcome(ending, within_bound);
+    fn outcome(&self, ending: Ending, to_bound: u32) -> Content {
+        let outcome = Paper.outcome(ending, to_bound);
         if outcome == GONE {
             self.reach(Point::Sealed);
         }
@@ -184,6 +190,9 @@ impl Rules for DayCoverage {
     fn obeyed(&self, run: &mut Run, opcode: u8, fault: Option<Fault>) {
         if fault == Some(Fault::VANISHED) {
             self.reach(Point::ThrownBy(opcode));
+        }
+        if let (Some(fault), false) = (fault, self.finding.take()) {
+            halves::reached(run, opcode, fault).into_iter().for_each(|half| self.reach(Point::Half(half)));
         }
         if opcode == READ && fault.is_none() && self.later.get() && run.stack.operand(0).place().is_some() {
             self.reach(Point::ReadHandle);

@@ -14,27 +14,12 @@ pub fn code(random: &mut Random, labels: &[Clauses], records: &[Input], steps: u
     let statements = random.within(1, 6);
     let mut writer = Writer::new(random, labels, records, statements, LAST_START);
     let scope = Scope { steps, depth: 0 };
-    // Without its own values a job has little to do, but is short.
-    if writer.random.chance(50) {
-        writer.fill_locals();
-    }
-    if writer.random.chance(30) {
-        // First, so that its places are those that an earlier job had.
-        writer.make_in_block();
-    }
-    for _ in 0..writer.random.within(1, 4) {
-        writer.day_statement(scope);
-    }
-    let length = writer.random.below(3);
-    writer.statements(scope, length);
-    if writer.random.chance(60) {
-        writer.leave_guarded();
-    }
-    if writer.random.chance(35) {
-        // In the open, so that the whole run is hidden from some; later jobs are
-        // not.
-        let manner = writer.any_manner();
-        writer.start(scope, manner);
+    match writer.random.below(20) {
+        // One thing alone, so that no fault comes before it.
+        0 | 1 => writer.raise_by_number(),
+        2 | 3 => writer.make_and_look(),
+        4 => writer.leave(),
+        _ => writer.several(scope),
     }
     writer.finish(scope);
     writer.bodies();
@@ -42,13 +27,43 @@ pub fn code(random: &mut Random, labels: &[Clauses], records: &[Input], steps: u
 }
 
 impl Writer<'_> {
+    fn several(&mut self, scope: Scope) {
+        // Without its own values a job has little to do, but is short.
+        if self.random.chance(50) {
+            self.fill_locals();
+        }
+        if self.random.chance(30) {
+            // First, so that its places are those that an earlier job had.
+            self.make_in_block();
+            self.take();
+        }
+        for _ in 0..self.random.within(1, 4) {
+            self.day_statement(scope);
+        }
+        let length = self.random.below(3);
+        self.statements(scope, length);
+        if self.random.chance(60) {
+            self.leave_guarded();
+        }
+        if self.random.chance(35) {
+            // In the open, so that the whole run is hidden from some; later jobs are
+            // not.
+            let manner = self.any_manner();
+            self.start(scope, manner);
+        }
+    }
+
     fn day_statement(&mut self, scope: Scope) {
-        match self.random.below(12) {
+        match self.random.below(13) {
             0..=2 => self.leave_guarded(),
             3..=5 => self.take(),
             6 | 7 => self.take_in_block(),
-            8 => self.make_in_block(),
+            8 => {
+                self.make_in_block();
+                self.take();
+            }
             9 => self.leave_by_number(),
+            10 => self.overstep(),
             _ => self.probe(scope),
         }
     }
@@ -175,7 +190,26 @@ impl Writer<'_> {
             writer.code.push(2).ops(&[CUR, opcode, POP]).place(zero).push(1).end();
             writer.code.place(after);
         });
-        self.take();
+    }
+
+    /// Ends with the label of what a handle leads to that was left, or with a fault.
+    fn make_and_look(&mut self) {
+        self.make_in_block();
+        if let Some(reference) = self.meeting() {
+            self.code.input(reference).ops(&[READ, LABOF, END]);
+        }
+    }
+
+    /// Leaves a handle, opens a record and, as its number is, raises the label to that
+    /// of the reference which has the handle.
+    fn raise_by_number(&mut self) {
+        let (Some(reference), false) = (self.meeting(), self.records.is_empty()) else { return };
+        let record = self.random.below(self.records.len());
+        let opens = if self.records[record].kind == 0 { OPEN } else { READ };
+        let label = self.records[usize::from(reference)].label;
+        let zero = self.code.target();
+        self.code.push(1).ops(&[CUR, SEAL]).input(reference).op(WRITE);
+        self.code.input(record as u8).op(opens).ifz(zero).lab(label).op(RAISE).place(zero);
     }
 
     /// Opens a record and, as its number is, leaves a handle or a number where the

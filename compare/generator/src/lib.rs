@@ -13,6 +13,7 @@ pub mod day_invalid;
 mod day_statements;
 pub mod days;
 pub mod exhaust;
+pub mod halves;
 pub mod invalid;
 pub mod parts;
 mod probes;

@@ -6,12 +6,16 @@ use reference::script::{Clauses, Input};
 
 /// Formulas that often stand in an order to one another.
 const SECRECY: [&[u8]; 8] = [&[], &[1], &[2], &[1, 2], &[3], &[4], &[1, 2, 4], &[0]];
-const INTEGRITY: [&[u8]; 6] = [&[], &[], &[], &[4], &[4, 8], &[12]];
+const INTEGRITY: [&[u8]; 7] = [&[], &[], &[], &[4], &[4, 8], &[12], &[1]];
 
 /// Labels: the first two a start and a clearance, mostly far apart.
 pub fn labels(random: &mut Random) -> Vec<Clauses> {
     let count = if random.chance(3) { 32 } else { random.within(3, 8) };
     let mut labels: Vec<Clauses> = (0..count).map(|_| label(random)).collect();
+    if random.chance(25) {
+        (labels[0], labels[1]) = narrow(random);
+        return labels;
+    }
     if random.chance(85) {
         labels[0] = Clauses::new(&[], random.pick(&[&[], &[], &[4]]));
     }
@@ -26,6 +30,14 @@ pub fn labels(random: &mut Random) -> Vec<Clauses> {
         labels[1] = Clauses::new(&[0], &[]);
     }
     labels
+}
+
+/// A start and a clearance with other labels below them, above and aside, by secrecy
+/// as well as by integrity.
+fn narrow(random: &mut Random) -> (Clauses, Clauses) {
+    let start = Clauses::new(random.pick(&[&[1], &[3]]), random.pick(&[&[4][..], &[4, 8]]));
+    let clearance = Clauses::new(random.pick(&[&[1][..], &[1, 2], &[1, 2, 4]]), random.pick(&[&[4], &[12]]));
+    (start, clearance)
 }
 
 pub fn flows(from: &Clauses, to: &Clauses) -> bool {

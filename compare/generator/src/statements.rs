@@ -9,8 +9,9 @@ use reference::opcode::*;
 impl Writer<'_> {
     pub fn statement(&mut self, scope: Scope) {
         match self.random.below(100) {
-            0..=7 => self.arithmetic(),
-            8..=12 => self.label_arithmetic(),
+            0..=5 => self.arithmetic(),
+            6..=9 => self.overstep(),
+            10..=12 => self.label_arithmetic(),
             13..=20 => self.open(),
             21..=26 => self.read(),
             27..=34 => self.branch(scope),
@@ -153,6 +154,26 @@ impl Writer<'_> {
         self.push_target();
         let opcode = self.random.pick(&[RAISE, RAISE, LOWER]);
         self.code.op(opcode);
+    }
+
+    /// A target, a new clearance or a raise, by whatever label; the fault is caught and,
+    /// at times, kept.
+    pub fn overstep(&mut self) {
+        let (handler, after) = (self.code.target(), self.code.target());
+        let label = self.any_label();
+        let opcode = self.random.pick(&[SEAL, NEW, BLOCK, RAISE, LOWER, LOWER, LOWER]);
+        self.code.try_to(handler);
+        match opcode {
+            SEAL | NEW => _ = self.code.push(1).lab(label).ops(&[opcode, POP]),
+            BLOCK => {
+                let body = self.code.target();
+                self.code.lab(label).block(body, 0, 0).place(body).op(POP);
+            }
+            _ => _ = self.code.lab(label).op(opcode),
+        }
+        self.code.op(DONE).jump(after).place(handler);
+        self.take_fault();
+        self.code.place(after);
     }
 
     /// Takes a record's label and, at times, tells by it.

@@ -3,11 +3,11 @@
 //! and 7 in the other, and it is hidden from that reader.
 
 use crate::list::Mutant;
-use cases::label::{CLEARANCE, PLAYER, PUBLIC, VOUCHED};
+use cases::label::{CLEARANCE, DEALER, PLAYER, PUBLIC, VOUCHED};
 use cases::record::{REFERENCE_PUBLIC, SEALED_DEALER, SEALED_PLAYER, SEALED_PUBLIC};
 use generator::alike::Pair;
 use reference::opcode::*;
-use reference::script::Code;
+use reference::script::{Clauses, Code, Script};
 
 /// A pair, and mutants that it tells from the paper's rules.
 pub type Told = (&'static [Mutant], Pair);
@@ -24,7 +24,10 @@ fn pair(mutants: &'static [Mutant], write: impl FnOnce(&mut Code)) -> Vec<Told> 
 fn hiding(record: u8, reader: u8, mutants: &'static [Mutant], write: impl FnOnce(&mut Code)) -> Vec<Told> {
     let mut code = Code::new();
     write(&mut code);
-    let mut script = cases::script(&code);
+    hiding_in(cases::script(&code), record, reader, mutants)
+}
+
+fn hiding_in(mut script: Script, record: u8, reader: u8, mutants: &'static [Mutant]) -> Vec<Told> {
     let file = script.bytes();
     script.records[record as usize].number = 0;
     vec![(mutants, Pair { file, other: script.bytes(), reader: reader.into() })]
@@ -89,8 +92,20 @@ fn by_outcome() -> Vec<Told> {
         pair(&[UnopenedFaultTells], |code| {
             block(code, PLAYER, |code| _ = code.lab(PUBLIC).ops(&[LOWER, OPEN, END]), throw);
         }),
+        past_in_one_half_or_both(),
     ]
     .concat()
+}
+
+/// The bench vouches for the run, the bound and the hidden record. The body passes the
+/// bound by secrecy, and by integrity too if the number is not 0.
+fn past_in_one_half_or_both() -> Vec<Told> {
+    let mut code = Code::new();
+    block(&mut code, VOUCHED, end, |code| _ = code.lab(DEALER).op(RAISE));
+    let mut script = cases::script(&code);
+    script.labels[usize::from(PUBLIC)] = script.labels[usize::from(VOUCHED)].clone();
+    script.labels[usize::from(PLAYER)] = Clauses::new(&[1], &[4]);
+    hiding_in(script, SEALED_PLAYER, VOUCHED, &[Mutant::BoundTells])
 }
 
 /// What the block is charged.

@@ -70,11 +70,11 @@ impl Rules for WrongDay {
         }
     }
 
-    fn unopened(&self, opcode: u8, content: Content) -> Fault {
+    fn unopened(&self, opcode: u8, content: Content, fault: Fault) -> Fault {
         if self.is(DayMutant::UnreadFaultTells) && (opcode, content) == (READ, GONE) {
             return Fault::VANISHED;
         }
-        Paper.unopened(opcode, content)
+        Paper.unopened(opcode, content, fault)
     }
 
     fn passes_over(&self, opcode: u8, content: Content) -> Result<(), Fault> {
@@ -94,8 +94,8 @@ impl Rules for WrongDay {
         Fault::VANISHED
     }
 
-    fn outcome(&self, ending: Ending, within_bound: bool) -> Content {
-        match Paper.outcome(ending, within_bound) {
+    fn outcome(&self, ending: Ending, to_bound: u32) -> Content {
+        match Paper.outcome(ending, to_bound) {
             GONE if self.is(DayMutant::GoneUnsealed) => Content::Fault(Fault::SPENT),
             outcome => outcome,
         }

@@ -1,7 +1,7 @@
 //! Mutants of the reference: the paper's rules but for one, each to be found
-//! out by generated pairs of alike files, or by a pair written by hand; and
+//! out by generated pairs of alike files, or by a pair or a file worked by hand; and
 //! wrong loaders, to be found out by the load cases. The same for days, whose
-//! mutants and wrong loaders the hand-worked days find out too.
+//! wrong loaders the hand-worked days find out.
 
 pub mod by_hand;
 pub mod day_by_hand;

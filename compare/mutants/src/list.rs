@@ -99,6 +99,28 @@ mutants! {
     LowerBelowLabel Wrong "LOWER may go below the label",
     LowerGoesUp Wrong "LOWER may go above the old clearance",
 
+    // Which half of a flow test failed.
+    HalvesSwapped Wrong "1 is told for integrity and 2 for secrecy",
+    BothAsSecrecy Wrong "1 is told where both halves failed",
+    BothAsIntegrity Wrong "2 is told where both halves failed",
+    TargetSilent Wrong "23 bears 0",
+    ClearanceSilent Wrong "24 of a target bears 0",
+    RaisedSilent Wrong "24 of a raised label bears 0",
+    LowerSilent Wrong "25 bears 0",
+    TargetBackwards Wrong "23 bears the answer from the target to the label",
+    ClearanceBackwards Wrong "24 bears the answer from the clearance to the target or raised label",
+    LowerBackwards Wrong "25 bears the answer from the new clearance to the label, or from the old to the new",
+    TargetTellsBoth Wrong "23 bears what 24 would bear, too",
+    LowerTellsBoth Wrong "25 bears the answers of both its tests",
+    LowerTellsLast Wrong "25 bears the second test's answer where both fail",
+    RaiseTellsRise Wrong "24 of RAISE bears the answer from its operand to the current label",
+    OpenTellsRise Wrong "24 of OPEN bears the answer from the record's label to the current one",
+    ReadTellsRise Wrong "24 of READ bears the answer from the record's label to the current one",
+    BoundTells Leak "31 bears the answer from the body's label to the bound",
+    FlowsTells Wrong "FLOWS pushes the flow test's answer",
+    CaughtSilent Wrong "a handler gets 0 with 23, 24 and 25",
+    SealedSilent Wrong "an outcome holds 23, 24 and 25 with 0",
+
     // Handlers.
     TryLabel Leak "a handler runs with the label that stood at TRY",
     TryClearance Wrong "a handler runs with the clearance that stood at TRY",

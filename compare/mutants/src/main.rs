@@ -1,9 +1,10 @@
 //! Says for each mutant after how many generated pairs it is found out, and by how
-//! many pairs, or days, written by hand. Fails if one is found by neither.
+//! many pairs, files or days written by hand. Fails if one is found by neither.
 
 use cases::days;
 use mutants::day_list::DAY_MUTANTS;
 use mutants::list::{Harm, MUTANTS};
+use mutants::wrong::Wrong;
 use mutants::{by_hand, day_by_hand, day_search, search, MOST_DAY_PAIRS, MOST_PAIRS};
 use std::process::ExitCode;
 
@@ -26,7 +27,7 @@ impl Tally {
         self.by_chance += u32::from(needed.is_some());
         self.unfound += u32::from(needed.is_none() && by_hand == 0);
         let needed = needed.map_or("not by chance".to_string(), |pairs| format!("after {pairs}"));
-        println!("{harm:<5} {name:<20} {needed:<13} by hand {by_hand:>2}  {says}");
+        println!("{harm:<5} {name:<20} {needed:<13} by hand {by_hand:>3}  {says}");
     }
 }
 
@@ -44,18 +45,24 @@ fn main() -> ExitCode {
     }
 }
 
+/// A leak is found out by alike pairs only; other mistakes by hand-worked files too.
 fn plain_mutants() -> Tally {
-    let by_hand = by_hand::pairs();
+    let (by_hand, cases) = (by_hand::pairs(), cases::all());
     let mut tally = Tally::default();
     for &mutant in MUTANTS {
         let needed = search::pairs_needed(mutant, MOST_PAIRS);
-        let told = by_hand.iter().filter(|(_, pair)| search::tells(mutant, pair)).count();
+        let told = match mutant.harm() {
+            Harm::Leak => by_hand.iter().filter(|(_, pair)| search::leaks(mutant, pair)).count(),
+            Harm::Wrong => {
+                cases.iter().filter(|case| search::differs(&Wrong::new(mutant), &case.file)).count()
+            }
+        };
         tally.add(mutant.harm(), format!("{mutant:?}"), needed, told, mutant.says());
     }
     tally
 }
 
-/// A leak is found out by alike pairs only; other mistakes by hand-worked days too.
+/// The same for days.
 fn day_mutants() -> Tally {
     let (by_hand, cases) = (day_by_hand::pairs(), days::all());
     let mut tally = Tally::default();

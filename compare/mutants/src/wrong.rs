@@ -1,10 +1,11 @@
 //! The mutants as rules.
 
 use crate::list::Mutant;
-use reference::label::{implies, Label};
+use reference::day_rules::DayRules;
+use reference::label::{Label, INTEGRITY, SECRECY};
 use reference::limits::{LOCALS, NESTED_BLOCKS};
 use reference::opcode::*;
-use reference::rules::{Field, Paper, Raiser, Rules};
+use reference::rules::{unless_flows, Field, Paper, Raiser, Rules};
 use reference::run::Run;
 use reference::store::Store;
 use reference::value::{Content, Ending, Fault, Value};
@@ -51,14 +52,53 @@ impl Wrong {
             _ => None,
         }
     }
+
+    /// What 24 bears; by the paper `answer`, that of the test from `label` to the clearance.
+    fn told_of_clearance(&self, opcode: u8, run: &Run, label: Label, answer: u32) -> u32 {
+        let raises = matches!(opcode, RAISE | OPEN | READ);
+        match (self.mutant, opcode) {
+            (Mutant::ClearanceSilent, _) if !raises => 0,
+            (Mutant::RaisedSilent, _) if raises => 0,
+            (Mutant::ClearanceBackwards, _) => Paper.flow_test(run.clearance, label),
+            // A raised label gives the answer that what it is raised by would give.
+            (Mutant::RaiseTellsRise, RAISE)
+            | (Mutant::OpenTellsRise, OPEN)
+            | (Mutant::ReadTellsRise, READ) => Paper.flow_test(label, run.label),
+            _ => answer,
+        }
+    }
 }
 
+const BOTH: u32 = SECRECY + INTEGRITY;
+
+/// Whether the fault is that of a failed flow test, and bears its answer.
+fn tells_half(fault: Fault) -> bool {
+    matches!(fault.code, 23..=25)
+}
+
+impl DayRules for Wrong {}
+
 impl Rules for Wrong {
-    fn flows(&self, from: Label, to: Label) -> bool {
-        if self.is(Mutant::IntegrityBackwards) {
-            return implies(to.secrecy, from.secrecy) && implies(to.integrity, from.integrity);
+    fn flow_test(&self, from: Label, to: Label) -> u32 {
+        match (self.mutant, Paper.flow_test(from, to)) {
+            (Mutant::IntegrityBackwards, _) => {
+                let with = |label: Label, integrity: u64| Label { integrity, ..label };
+                Paper.flow_test(with(from, to.integrity), with(to, from.integrity))
+            }
+            (Mutant::HalvesSwapped, SECRECY) => INTEGRITY,
+            (Mutant::HalvesSwapped, INTEGRITY) => SECRECY,
+            (Mutant::BothAsSecrecy, BOTH) => SECRECY,
+            (Mutant::BothAsIntegrity, BOTH) => INTEGRITY,
+            (_, answer) => answer,
         }
-        Paper.flows(from, to)
+    }
+
+    fn pushed_by_flows(&self, answer: u32) -> u32 {
+        if self.is(Mutant::FlowsTells) {
+            answer
+        } else {
+            Paper.pushed_by_flows(answer)
+        }
     }
 
     fn join(&self, one: Label, other: Label) -> Label {
@@ -79,17 +119,44 @@ impl Rules for Wrong {
         Paper.meet(one, other)
     }
 
-    fn may_target(&self, opcode: u8, current: Label, target: Label) -> bool {
-        self.untargeted() == Some(opcode) || self.flows(current, target)
+    fn may_target(&self, opcode: u8, run: &Run, target: Label) -> Result<(), Fault> {
+        if self.untargeted() == Some(opcode) {
+            return Ok(());
+        }
+        unless_flows(self.flow_test(run.label, target), |answer| {
+            Fault::above_target(match self.mutant {
+                Mutant::TargetSilent => 0,
+                Mutant::TargetBackwards => Paper.flow_test(target, run.label),
+                Mutant::TargetTellsBoth => answer | Paper.flow_test(target, run.clearance),
+                _ => answer,
+            })
+        })
     }
 
-    fn within_clearance(&self, opcode: u8, label: Label, clearance: Label) -> bool {
-        self.uncleared() == Some(opcode) || self.flows(label, clearance)
+    fn within_clearance(&self, opcode: u8, run: &Run, label: Label) -> Result<(), Fault> {
+        if self.uncleared() == Some(opcode) {
+            return Ok(());
+        }
+        unless_flows(self.flow_test(label, run.clearance), |answer| {
+            Fault::above_clearance(self.told_of_clearance(opcode, run, label, answer))
+        })
     }
 
-    fn may_lower(&self, current: Label, new: Label, old: Label) -> bool {
-        (self.is(Mutant::LowerBelowLabel) || self.flows(current, new))
-            && (self.is(Mutant::LowerGoesUp) || self.flows(new, old))
+    fn may_lower(&self, run: &Run, new: Label) -> Result<(), Fault> {
+        let test = |skipped, from, to| if self.is(skipped) { 0 } else { self.flow_test(from, to) };
+        let first = test(Mutant::LowerBelowLabel, run.label, new);
+        let second = test(Mutant::LowerGoesUp, new, run.clearance);
+        unless_flows(first | second, |both| {
+            Fault::bad_lower(match self.mutant {
+                Mutant::LowerSilent => 0,
+                Mutant::LowerBackwards if first != 0 => Paper.flow_test(new, run.label),
+                Mutant::LowerBackwards => Paper.flow_test(run.clearance, new),
+                Mutant::LowerTellsBoth => both,
+                Mutant::LowerTellsLast if second != 0 => second,
+                _ if first != 0 => first,
+                _ => second,
+            })
+        })
     }
 
     fn may_nest(&self, depth: usize) -> bool {
@@ -124,21 +191,27 @@ impl Rules for Wrong {
         }
     }
 
-    fn unopened(&self, opcode: u8, content: Content) -> Fault {
+    fn unopened(&self, opcode: u8, content: Content, fault: Fault) -> Fault {
         match content {
             Content::Fault(fault) if self.is(Mutant::UnopenedFaultTells) => fault,
-            _ => Paper.unopened(opcode, content),
+            _ => Paper.unopened(opcode, content, fault),
         }
     }
 
-    fn outcome(&self, ending: Ending, within_bound: bool) -> Content {
-        let right = Paper.outcome(ending, within_bound);
+    fn outcome(&self, ending: Ending, to_bound: u32) -> Content {
+        let right = Paper.outcome(ending, to_bound);
         match (self.mutant, ending) {
             (Mutant::SpentOverBound, Ending::Spent)
             | (Mutant::FaultOverBound, Ending::Fault(_))
-            | (Mutant::ResultOverBound, Ending::Result(_)) => Paper.outcome(ending, true),
-            (Mutant::BoundFaultTells, Ending::Fault(fault)) if !within_bound => {
+            | (Mutant::ResultOverBound, Ending::Result(_)) => Paper.outcome(ending, 0),
+            (Mutant::BoundFaultTells, Ending::Fault(fault)) if to_bound != 0 => {
                 Content::Fault(Fault { number: fault.code.into(), ..Fault::ABOVE_BOUND })
+            }
+            (Mutant::BoundTells, _) if to_bound != 0 => {
+                Content::Fault(Fault { number: to_bound, ..Fault::ABOVE_BOUND })
+            }
+            (Mutant::SealedSilent, Ending::Fault(fault)) if right == Content::Fault(fault) => {
+                Content::Fault(if tells_half(fault) { Fault::plain(fault.code) } else { fault })
             }
             (Mutant::CodesSwapped, _) => match right {
                 Content::Fault(Fault::ABOVE_BOUND) => Content::Fault(Fault::SPENT),
@@ -238,6 +311,7 @@ impl Rules for Wrong {
                 run.stack.push(Value::Number(fault.number));
                 run.stack.push(Value::Number(fault.code.into()));
             }
+            Mutant::CaughtSilent if tells_half(fault) => run.stack.replace(1, Value::ZERO),
             _ => (),
         }
     }

@@ -4,8 +4,9 @@ use cases::days;
 use mutants::day_by_hand;
 use mutants::day_list::{DayMutant, DAY_MUTANTS};
 use mutants::day_loader::PAPER;
-use mutants::day_search::{differs, leaks, pairs_needed, read, tells};
-use mutants::list::Harm;
+use mutants::day_search::{differs, leaks, pairs_needed, read, tells, views};
+use mutants::list::{Harm, Mutant, MUTANTS};
+use mutants::wrong::Wrong;
 use mutants::wrong_day_loaders;
 use reference::day::Day;
 use reference::limits::MAX_DAY;
@@ -42,6 +43,22 @@ fn hand_worked_days_find_leaks_too() {
     let cases = days::all();
     for &mutant in DAY_MUTANTS {
         assert!(cases.iter().any(|case| differs(mutant, &case.file)), "{mutant:?}");
+    }
+}
+
+/// Jobs run on the plain file's machine; which half failed is seen in days as well.
+#[test]
+fn hand_worked_days_find_every_wrong_half() {
+    let cases = days::all();
+    let at = |mutant| MUTANTS.iter().position(|&one| one == mutant).expect("a mutant of the list");
+    for &mutant in &MUTANTS[at(Mutant::HalvesSwapped)..=at(Mutant::SealedSilent)] {
+        let told = |case: &days::DayCase| {
+            let labels = Day::parse(&case.file).map_or(0, |day| day.parts.labels().len());
+            (0..labels).any(|reader| {
+                views(&Wrong::new(mutant), &case.file, reader) != views(&Paper, &case.file, reader)
+            })
+        };
+        assert!(cases.iter().any(told), "{mutant:?} passes for the original");
     }
 }
 

@@ -5,6 +5,11 @@ use crate::limits::{HIGHEST_MASK, MAX_CLAUSES, PRINCIPALS};
 /// The formula that holds for every set of principals.
 pub const TRUE: u64 = u64::MAX;
 
+/// What the flow test answers where it fails by secrecy, or by integrity. It answers
+/// their sum where it fails by both.
+pub const SECRECY: u32 = 1;
+pub const INTEGRITY: u32 = 2;
+
 /// A secrecy and an integrity formula, each as a table: bit i tells whether the
 /// formula holds for the set of principals whose mask is i.
 #[derive(Clone, Copy, Debug, PartialEq, Eq)]
@@ -17,9 +22,17 @@ impl Label {
     /// Open to everyone and vouched for by no one.
     pub const PUBLIC: Label = Label { secrecy: TRUE, integrity: TRUE };
 
+    /// The flow test: 0 if this label flows to the other one, else what failed.
+    #[inline]
+    pub fn flow_test(self, to: Label) -> u32 {
+        let secrecy_fails = !implies(to.secrecy, self.secrecy);
+        let integrity_fails = !implies(self.integrity, to.integrity);
+        SECRECY * u32::from(secrecy_fails) + INTEGRITY * u32::from(integrity_fails)
+    }
+
     #[inline]
     pub fn flows_to(self, to: Label) -> bool {
-        implies(to.secrecy, self.secrecy) && implies(self.integrity, to.integrity)
+        self.flow_test(to) == 0
     }
 
     #[inline]

@@ -153,7 +153,7 @@ impl<R: Rules> Machine<'_, R> {
     fn raise(&self, run: &mut Run) -> Result<(), Fault> {
         let by = run.stack.label(0)?;
         let raised = self.rules.join(run.label, by);
-        self.check_clearance(run, RAISE, raised)?;
+        self.rules.within_clearance(RAISE, run, raised)?;
         run.label = self.rules.raised(Raiser::Raise, run.label, by, raised);
         run.stack.drop(1);
         Ok(())
@@ -161,9 +161,7 @@ impl<R: Rules> Machine<'_, R> {
 
     fn lower(&self, run: &mut Run) -> Result<(), Fault> {
         let new = run.stack.label(0)?;
-        if !self.rules.may_lower(run.label, new, run.clearance) {
-            return Err(Fault::BAD_LOWER);
-        }
+        self.rules.may_lower(run, new)?;
         run.clearance = new;
         run.stack.drop(1);
         Ok(())
@@ -172,7 +170,7 @@ impl<R: Rules> Machine<'_, R> {
     fn compare_labels(&self, run: &mut Run, opcode: u8) -> Result<(), Fault> {
         let (deeper, top) = (run.stack.label(1)?, run.stack.label(0)?);
         let answer = match opcode {
-            FLOWS => Value::Number(self.rules.flows(deeper, top).into()),
+            FLOWS => Value::Number(self.rules.pushed_by_flows(self.rules.flow_test(deeper, top))),
             JOIN => Value::Label(self.rules.join(deeper, top)),
             _ => Value::Label(self.rules.meet(deeper, top)),
         };
@@ -195,9 +193,9 @@ impl<R: Rules> Machine<'_, R> {
     fn open(&mut self, run: &mut Run, opcode: u8, place: u8) -> Result<(), Fault> {
         let record = *self.record(place)?;
         let raised = self.rules.join(run.label, record.label);
-        if !self.rules.within_clearance(opcode, raised, run.clearance) {
-            return Err(self.rules.unopened(opcode, record.content));
-        }
+        self.rules
+            .within_clearance(opcode, run, raised)
+            .map_err(|fault| self.rules.unopened(opcode, record.content, fault))?;
         let raiser = Raiser::of(opcode, record.content);
         run.label = self.rules.raised(raiser, run.label, record.label, raised);
         match record.content {
@@ -254,28 +252,18 @@ impl<R: Rules> Machine<'_, R> {
         if let Some(fault) = self.rules.crossing(ending) {
             return Err(fault);
         }
-        let within_bound = self.rules.flows(body.label, bound);
-        if let (Some(kept), false) = (kept, within_bound) {
+        let to_bound = self.rules.flow_test(body.label, bound);
+        if let (Some(kept), true) = (kept, to_bound != 0) {
             self.store = kept;
         }
-        Ok(self.rules.outcome(ending, within_bound))
+        Ok(self.rules.outcome(ending, to_bound))
     }
 
     /// Checks 23 and 24 for an instruction that writes to, or makes, a record.
     #[inline]
     fn check_target(&self, run: &Run, opcode: u8, target: Label) -> Result<(), Fault> {
-        if !self.rules.may_target(opcode, run.label, target) {
-            return Err(Fault::ABOVE_TARGET);
-        }
-        self.check_clearance(run, opcode, target)
-    }
-
-    #[inline]
-    fn check_clearance(&self, run: &Run, opcode: u8, label: Label) -> Result<(), Fault> {
-        if !self.rules.within_clearance(opcode, label, run.clearance) {
-            return Err(Fault::ABOVE_CLEARANCE);
-        }
-        Ok(())
+        self.rules.may_target(opcode, run, target)?;
+        self.rules.within_clearance(opcode, run, target)
     }
 
     // Operands in the code; check 7 has seen that they are there.

@@ -53,10 +53,32 @@ pub enum Field {
     Clearance,
 }
 
+/// `fault` with the flow test's answer, unless that is 0.
+#[inline]
+pub fn unless_flows(answer: u32, fault: impl Fn(u32) -> Fault) -> Result<(), Fault> {
+    if answer == 0 {
+        Ok(())
+    } else {
+        Err(fault(answer))
+    }
+}
+
 pub trait Rules {
+    /// The flow test: 0, or which half failed.
+    #[inline]
+    fn flow_test(&self, from: Label, to: Label) -> u32 {
+        from.flow_test(to)
+    }
+
     #[inline]
     fn flows(&self, from: Label, to: Label) -> bool {
-        from.flows_to(to)
+        self.flow_test(from, to) == 0
+    }
+
+    /// What FLOWS pushes.
+    #[inline]
+    fn pushed_by_flows(&self, answer: u32) -> u32 {
+        (answer == 0).into()
     }
 
     #[inline]
@@ -71,21 +93,22 @@ pub trait Rules {
 
     /// Check 23, for SEAL, NEW, WRITE and BLOCK.
     #[inline]
-    fn may_target(&self, _opcode: u8, current: Label, target: Label) -> bool {
-        self.flows(current, target)
+    fn may_target(&self, _opcode: u8, run: &Run, target: Label) -> Result<(), Fault> {
+        unless_flows(self.flow_test(run.label, target), Fault::above_target)
     }
 
     /// Check 24, for the targets of check 23 and the labels that RAISE, OPEN
     /// and READ would give.
     #[inline]
-    fn within_clearance(&self, _opcode: u8, label: Label, clearance: Label) -> bool {
-        self.flows(label, clearance)
+    fn within_clearance(&self, _opcode: u8, run: &Run, label: Label) -> Result<(), Fault> {
+        unless_flows(self.flow_test(label, run.clearance), Fault::above_clearance)
     }
 
-    /// Check 25.
+    /// Check 25: the first of its tests that fails speaks.
     #[inline]
-    fn may_lower(&self, current: Label, new: Label, old: Label) -> bool {
-        self.flows(current, new) && self.flows(new, old)
+    fn may_lower(&self, run: &Run, new: Label) -> Result<(), Fault> {
+        unless_flows(self.flow_test(run.label, new), Fault::bad_lower)?;
+        unless_flows(self.flow_test(new, run.clearance), Fault::bad_lower)
     }
 
     /// Check 28: whether a run inside `depth` blocks may start another.
@@ -113,10 +136,11 @@ pub trait Rules {
         raised
     }
 
-    /// What OPEN or READ throws where the raised label is above the clearance.
+    /// What OPEN or READ throws where the raised label is above the clearance:
+    /// `fault`, that of check 24.
     #[inline]
-    fn unopened(&self, _opcode: u8, _content: Content) -> Fault {
-        Fault::ABOVE_CLEARANCE
+    fn unopened(&self, _opcode: u8, _content: Content, fault: Fault) -> Fault {
+        fault
     }
 
     /// A fault for what a record holds that WRITE or LABOF is given: none, as
@@ -131,10 +155,11 @@ pub trait Rules {
         unreachable!("a handle is made with its record and goes with it")
     }
 
-    /// What a block's outcome holds.
+    /// What a block's outcome holds; `to_bound` is the flow test of the body's final
+    /// label to the bound.
     #[inline]
-    fn outcome(&self, ending: Ending, within_bound: bool) -> Content {
-        if !within_bound {
+    fn outcome(&self, ending: Ending, to_bound: u32) -> Content {
+        if to_bound != 0 {
             return Content::Fault(Fault::ABOVE_BOUND);
         }
         match ending {

@@ -42,10 +42,6 @@ impl Fault {
     pub const TOO_FEW_OPERANDS: Fault = Fault::plain(20);
     pub const STACK_FULL: Fault = Fault::plain(21);
     pub const WRONG_KIND: Fault = Fault::plain(22);
-    /// The current label does not flow to the target.
-    pub const ABOVE_TARGET: Fault = Fault::plain(23);
-    pub const ABOVE_CLEARANCE: Fault = Fault::plain(24);
-    pub const BAD_LOWER: Fault = Fault::plain(25);
     pub const NO_PLACE: Fault = Fault::plain(26);
     pub const NO_STEPS: Fault = Fault::plain(27);
     pub const TOO_DEEP: Fault = Fault::plain(28);
@@ -63,6 +59,21 @@ impl Fault {
 
     pub const fn thrown(number: u32) -> Fault {
         Fault { code: 30, number }
+    }
+
+    // The faults of a failed flow test bear its answer.
+
+    /// The current label does not flow to the target.
+    pub const fn above_target(answer: u32) -> Fault {
+        Fault { code: 23, number: answer }
+    }
+
+    pub const fn above_clearance(answer: u32) -> Fault {
+        Fault { code: 24, number: answer }
+    }
+
+    pub const fn bad_lower(answer: u32) -> Fault {
+        Fault { code: 25, number: answer }
     }
 }
 

@@ -1,4 +1,4 @@
-//! P1 to P8, and the lists of clauses that are malformed.
+//! P1 to P8, the flow test's answers, and the lists of clauses that are malformed.
 
 use reference::label::{clause, formula, Label, TRUE};
 
@@ -28,15 +28,68 @@ fn p1_to_p5_tables() {
 #[test]
 fn p6_either_flows_to_one_of_them() {
     let (either, player) = (label(&[PLAYER | DEALER], &[]), label(&[PLAYER], &[]));
-    assert!(either.flows_to(player));
-    assert!(!player.flows_to(either));
+    assert_eq!(either.flow_test(player), 0);
+    assert_eq!(player.flow_test(either), 1);
 }
 
 #[test]
 fn p7_integrity_may_be_lost_and_not_won() {
     let (vouched, public) = (label(&[], &[BENCH]), Label::PUBLIC);
-    assert!(vouched.flows_to(public));
-    assert!(!public.flows_to(vouched));
+    assert_eq!(vouched.flow_test(public), 0);
+    assert_eq!(public.flow_test(vouched), 2);
+}
+
+#[test]
+fn both_halves_fail() {
+    let (player, vouched_dealer) = (label(&[PLAYER], &[]), label(&[DEALER], &[BENCH]));
+    assert_eq!(player.flow_test(vouched_dealer), 3);
+    // Back, the integrity is lost, which is allowed.
+    assert_eq!(vouched_dealer.flow_test(player), 1);
+    // Neither vouches for the other.
+    assert_eq!(vouched_dealer.flow_test(label(&[PLAYER], &[PLAYER])), 3);
+    // More secret, and not vouched for.
+    assert_eq!(player.flow_test(label(&[PLAYER, DEALER], &[BENCH])), 2);
+}
+
+/// Labels that stand in every order to one another.
+fn labels() -> Vec<Label> {
+    let formulas: [&[u8]; 8] =
+        [&[], &[PLAYER], &[DEALER], &[PLAYER | DEALER], &[PLAYER, DEALER], &[BENCH], &[3, 5, 6], &[0]];
+    formulas.iter().flat_map(|secrecy| formulas.map(|integrity| label(secrecy, integrity))).collect()
+}
+
+/// The answer by the paper's words, one set of principals at a time.
+#[test]
+fn the_answer_set_by_set() {
+    let fails = |premise: u64, conclusion: u64| {
+        (0..64).any(|set| premise >> set & 1 == 1 && conclusion >> set & 1 == 0)
+    };
+    for from in labels() {
+        for to in labels() {
+            let answer = match (fails(to.secrecy, from.secrecy), fails(from.integrity, to.integrity)) {
+                (false, false) => 0,
+                (true, false) => 1,
+                (false, true) => 2,
+                (true, true) => 3,
+            };
+            assert_eq!(from.flow_test(to), answer, "{from:x?} {to:x?}");
+            assert_eq!(from.flows_to(to), answer == 0, "{from:x?} {to:x?}");
+        }
+    }
+}
+
+/// A join fails in a half exactly if one of the two fails in it. So the raised label
+/// of OPEN gives the record's own answer, as the current label flows to the clearance.
+#[test]
+fn a_join_fails_where_one_of_the_two_does() {
+    for (one, other) in
+        labels().into_iter().flat_map(|one| labels().into_iter().map(move |other| (one, other)))
+    {
+        for to in labels() {
+            assert_eq!(one.join(other).flow_test(to), one.flow_test(to) | other.flow_test(to));
+            assert_eq!(to.flow_test(one.meet(other)), to.flow_test(one) | to.flow_test(other));
+        }
+    }
 }
 
 #[test]

@@ -4,12 +4,12 @@
 //! made with its record, and a block's unused places get neither. The nearest are
 //! handles to places behind such unused ones.
 
-use super::{add, day, ends, fault, five, number, of, DayCase, JobEnds, FIRST};
+use super::{add, day, ends, fault, five, number, of, thrown, DayCase, JobEnds, FIRST};
 use crate::label;
 use crate::record::*;
 use reference::opcode::*;
 use reference::script::Code;
-use reference::value::{Ending, Value};
+use reference::value::{Ending, Fault, Value};
 
 pub fn cases() -> Vec<DayCase> {
     [places(), caught(), reads(), raises(), blocks(), overwritten()].concat()
@@ -197,8 +197,12 @@ fn raises() -> Vec<DayCase> {
                 read_then_flows(code, label::PLAYER);
             }]),
         ),
-        ends("24 comes before 33", &[number(5), fault(24)], &public),
-        ends("24 in place of 33, above the clearance", &[number(5), fault(24)], &above),
+        ends("24 comes before 33", &[number(5), thrown(Fault::above_clearance(1))], &public),
+        ends(
+            "24 in place of 33, above the clearance",
+            &[number(5), thrown(Fault::above_clearance(1))],
+            &above,
+        ),
         ends("33 in a record above the clearance of most", &[number(5), fault(33)], &cleared),
     ]
 }
