@@ -11,7 +11,7 @@ use native.Mathlib.Omega.{arith}
 use lib.ListN.{set, replicate, length-set}
 use lib.Seq.{getD-set-other}
 use Rattle.formulas.specs.Formula.{holds, table, implies}
-use Rattle.labels.specs.Order.{flows, join}
+use Rattle.labels.specs.Order.{flowTest, flows, join}
 use Rattle.label_entries.specs.Entries.{wellFormed, readEntry}
 use Rattle.model.specs.State.{shown}
 use Rattle.model.specs.Decoding.{byte, u16, u32, operandBytes, known, size, instrs, fetch, after}
@@ -90,7 +90,7 @@ pub record Computed : Type 0 where
   pub opens-9 : byte (dayView (day 9) 1) 154 ≡ 9
 
 pub computed : Computed
-unfolding day template publicViews dayLegible holds table implies flows join wellFormed readEntry u16 u32 operandBytes known size instrs fetch after popFrom asNumber asLabel asHandle asSealed asReference arity dropFrame operate plan failTo yield openSlot labelSlot writeSlot contentsOf outcome act inputs handles inputSlots perform step resume pay run runs startStore dayHeader labelBytesOf recordBytesOf readLabels labelsOf labelOf sweep starts operandsOk instrOk mayBeLast codeOk every sizeOk countsOk offsetsOk recordsOk jobFrom jobsFrom span jobOk jobsOk spanOk passes1 passes2 passes3 passes4 passes6 passes7 passes10 dayRefusal inputsOf keptDatum keptContents keptSlot endSlot endFrom jobProgram jobAccount jobRun storeAfter admitted turns dayTurns littleEndian labelField datumField contentsField endingNumber resultField kindByte recordField shown slotField recordFields recordsShown counts final viewLength view skippedView turnView eachTurn dayView
+unfolding day template publicViews dayLegible holds table implies flowTest join wellFormed readEntry u16 u32 operandBytes known size instrs fetch after popFrom asNumber asLabel asHandle asSealed asReference arity dropFrame operate plan failTo yield openSlot labelSlot writeSlot contentsOf outcome act inputs handles inputSlots perform step resume pay run runs startStore dayHeader labelBytesOf recordBytesOf readLabels labelsOf labelOf sweep starts operandsOk instrOk mayBeLast codeOk every sizeOk countsOk offsetsOk recordsOk jobFrom jobsFrom span jobOk jobsOk spanOk passes1 passes2 passes3 passes4 passes6 passes7 passes10 dayRefusal inputsOf keptDatum keptContents keptSlot endSlot endFrom jobProgram jobAccount jobRun storeAfter admitted turns dayTurns littleEndian labelField datumField contentsField endingNumber resultField kindByte recordField shown slotField recordFields recordsShown counts final viewLength view skippedView turnView eachTurn dayView
 computed =
     record {
       legible-7 = refl;

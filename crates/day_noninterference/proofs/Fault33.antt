@@ -1,6 +1,6 @@
 -- "fault 33 starts only from reading such contents": in an accepted day no operand fault and no check has that code, and no
 -- place that is asked for is empty. What is left is OPEN or READ of a record whose contents are fault 33.
-use mathlib.Core.Bool.{Bool, true, _&&_}
+use mathlib.Core.Bool.{Bool, true}
 use mathlib.Core.List.{List, [], _∷_}
 use mathlib.Core.Logic.{_≢_}
 use mathlib.Core.Path.{_≡_, refl, sym, ap, _∙_, subst}
@@ -9,10 +9,10 @@ use native.Mathlib.Omega.{arith}
 use lib.Dec.{leb, ltb, lit<}
 use lib.ListN.{length}
 use Rattle.labels.specs.declared.Label.{Label}
-use Rattle.model.specs.State.{Control, Store, Program, Runner, at, jump, withFrames, withStack}
+use Rattle.model.specs.State.{Control, Store, Program, flowsIn, Runner, at, jump, withFrames, withStack}
 use Rattle.model.specs.declared.Account.{Account}
 use Rattle.model.specs.Operands.{Request, none, ends, throws, raises, lowers, labels, opens, makes, writes, blocks, Plan, faults, asks, popFrom, asNumber, asLabel, asHandle, asSealed, asReference, arity, dropFrame, operate, plan}
-use Rattle.model.specs.Effects.{Next, go, stop, failTo, fail, check, checkTarget, raised, yield, openSlot, labelSlot, writeSlot, act}
+use Rattle.model.specs.Effects.{Next, go, stop, failTo, fail, check, checkFlow, checkBetween, checkRaise, raised, yield, openSlot, labelSlot, writeSlot, act}
 use Rattle.model.specs.Running.{perform, step, startControl}
 use Rattle.model.specs.declared.Kind.the-variants.{Sealed, Reference}
 use Rattle.model.specs.declared.Datum.{Datum}
@@ -158,15 +158,19 @@ module _ (G : ℕ → Type 0) where
 
 module _ (P : Program) (R : Runner) (c r : Control) (a : Account) (σ : Store) (G : ℕ → Type 0) where
   -- a check with another code
-  other : (t : Bool) (code : ℕ) (x : Next) → code < 33 → Only G x → Only G (check t code (withFrames [] c) a σ x)
-  other t code x lt h = cond-one (Only G) t (λ _. h) (λ _. faulted G code 0 c a σ (λ e. absurd (omega arith)))
+  other : (t : Bool) (code n : ℕ) (x : Next) → code < 33 → Only G x → Only G (check t code n (withFrames [] c) a σ x)
+  other t code n x lt h = cond-one (Only G) t (λ _. h) (λ _. faulted G code n c a σ (λ e. absurd (omega arith)))
 
-  -- 24 of RAISE, OPEN and READ; 23 and 24 of a target
-  raise-only : (l : Label) (x : Next) → Only G x → Only G (check (P .flows (P .join (a .label) l) (a .clearance)) 24 (withFrames [] c) a σ x)
-  raise-only l x h = other (P .flows (P .join (a .label) l) (a .clearance)) 24 _ (lit< tt) h
+  flow-only : (l m : Label) (code : ℕ) (x : Next) → code < 33 → Only G x → Only G (checkFlow P l m code (withFrames [] c) a σ x)
+  flow-only l m code x lt h = other (flowsIn P l m) code _ x lt h
 
-  target-only : (l : Label) (x : Next) → Only G x → Only G (checkTarget P l (withFrames [] c) a σ x)
-  target-only l x h = other (P .flows (a .label) l) 23 _ (lit< tt) (other (P .flows l (a .clearance)) 24 _ (lit< tt) h)
+  -- 24 of RAISE, OPEN and READ; 23 and 24 of a target, or 25 twice
+  raise-only : (l : Label) (x : Next) → Only G x → Only G (checkRaise P l (withFrames [] c) a σ x)
+  raise-only l x h = flow-only (P .join (a .label) l) (a .clearance) 24 _ (lit< tt) h
+
+  between-only : (first second : ℕ) (l : Label) (x : Next) → first < 33 → second < 33 → Only G x
+      → Only G (checkBetween P first second l (withFrames [] c) a σ x)
+  between-only first second l x f g h = flow-only (a .label) l first _ f (flow-only l (a .clearance) second x g h)
 
   open-only : (x : Slot) → x ≢ Empty → ((y : Record) (n : ℕ) → x ≡ Full y → y .contents ≡ Fault 33 n → G n) → Only G (openSlot P (withFrames [] c) r a σ x)
   unfolding openSlot yield
@@ -185,7 +189,7 @@ module _ (P : Program) (R : Runner) (c r : Control) (a : Account) (σ : Store) (
   write-only : (p : ℕ) (d : Datum) (x : Slot) → x ≢ Empty → Only G (writeSlot P (withFrames [] c) r a σ p d x)
   unfolding writeSlot
   write-only p d Empty full = absurd (full refl)
-  write-only p d (Full y) full = target-only (y .label) _ (goes-on G _ _ _)
+  write-only p d (Full y) full = between-only 23 24 (y .label) _ (lit< tt) (lit< tt) (goes-on G _ _ _)
 
   act-only : (q : Request) → Holds σ q → ((p : ℕ) (y : Record) (n : ℕ) → q ≡ opens p → at σ p ≡ Full y → y .contents ≡ Fault 33 n → G n)
       → Only G (act P R (withFrames [] c) r a σ q)
@@ -194,15 +198,15 @@ module _ (P : Program) (R : Runner) (c r : Control) (a : Account) (σ : Store) (
   act-only (ends d) full h = returns G _ _ _
   act-only (throws n) full h = faulted G 30 n c a σ (λ e. absurd (omega arith))
   act-only (raises l) full h = raise-only l _ (goes-on G _ _ _)
-  act-only (lowers l) full h = other (P .flows (a .label) l && P .flows l (a .clearance)) 25 _ (lit< tt) (goes-on G _ _ _)
+  act-only (lowers l) full h = between-only 25 25 l _ (lit< tt) (lit< tt) (goes-on G _ _ _)
   act-only (labels p) full h = label-only (at σ p) full
   act-only (opens p) full h = open-only (at σ p) full (λ y n. h p y n refl)
-  act-only (makes k l d) full h = target-only l _ (other (ltb (a .next) (a .limit)) 26 _ (lit< tt) (goes-on G _ _ _))
+  act-only (makes k l d) full h = between-only 23 24 l _ (lit< tt) (lit< tt) (other (ltb (a .next) (a .limit)) 26 0 _ (lit< tt) (goes-on G _ _ _))
   act-only (writes p d) full h = write-only p d (at σ p) full
   act-only (blocks b t n k) full h =
-      target-only b _
-      (other (ltb (a .depth) 8) 28 _ (lit< tt)
-      (other (leb n (a .steps)) 27 _ (lit< tt) (other (leb (a .next + 1 + k) (a .limit)) 26 _ (lit< tt) (goes-on G _ _ _))))
+      between-only 23 24 b _ (lit< tt) (lit< tt)
+      (other (ltb (a .depth) 8) 28 0 _ (lit< tt)
+      (other (leb n (a .steps)) 27 0 _ (lit< tt) (other (leb (a .next + 1 + k) (a .limit)) 26 0 _ (lit< tt) (goes-on G _ _ _))))
 
 -- ── the instruction ──
 

@@ -15,7 +15,7 @@ use Rattle.model.specs.declared.Datum.the-variants.{Number, Label as Labelled, 
 use Rattle.model.specs.declared.Frame.{Frame}
 use Rattle.model.specs.declared.Instr.{Instr}
 use Rattle.model.specs.declared.Instr.the-variants.{End, Push, Lab, Get, Set, Pop, Add, Sub, Less, Same, Jump, Ifz, Cur, Clr, Raise, Lower, Flows, Join, Meet, Seal, Open, Labof, New, Read, Write, Block, Try, Done, Throw, Input}
-use Rattle.model.specs.State.{Control, Store, Program, Runner, jump, setLocal, withFrames}
+use Rattle.model.specs.State.{Control, Store, Program, flowsIn, Runner, jump, setLocal, withFrames}
 use Rattle.model.specs.declared.Account.{Account}
 use Rattle.model.specs.Operands.{Plan, faults, asks, none, ends, throws, raises, lowers, labels, opens, makes, writes, blocks, asNumber, asLabel, asHandle, asSealed, asReference, dropFrame, arity, arityIs, operate, plan, pop, popNumber, popLabel, pushes, truth}
 use Rattle.model.specs.Effects.{go, act}
@@ -50,7 +50,7 @@ module _ (code ws rs : List ℕ) (R : Runner) (c : Control) (a : Account) (σ : 
 
   fault : (y x : Datum) (f : ℕ) → Does y x (faulty f) (faults f)
   unfolding perform
-  fault y x f = failed code ws rs R c a σ b y x f
+  fault y x f = failed code ws rs R c a σ b y x f 0
 
   -- ── numbers ──
 
@@ -247,7 +247,7 @@ module _ (code ws rs : List ℕ) (R : Runner) (c : Control) (a : Account) (σ : 
         (λ h. popped (λ d r. asLabel d (λ l. asks r (raises l))) h (on-label Raises x (λ l. asks (less 1 c) (raises l)) (λ l. raise-good code ws rs R c a σ b x l h) y))
     decision-performs Lower = short-good Lower 1 0 _ refl (omega arith)
         (λ h. popped (λ d r. asLabel d (λ l. asks r (lowers l))) h (on-label Lowers x (λ l. asks (less 1 c) (lowers l)) (λ l. lower-good code ws rs R c a σ b x l h) y))
-    decision-performs Flows = short-good Flows 2 1 _ refl (omega arith) (λ h. two-labels Flowing (λ m l. truth (P .flows l m)) (λ m l. bit-good (Labelled m) (Labelled l) (P .flows l m) h) h)
+    decision-performs Flows = short-good Flows 2 1 _ refl (omega arith) (λ h. two-labels Flowing (λ m l. truth (flowsIn P l m)) (λ m l. bit-good (Labelled m) (Labelled l) (flowsIn P l m) h) h)
     decision-performs Join = short-good Join 2 1 _ refl (omega arith) (λ h. two-labels Joining (λ m l. Labelled (P .join l m)) (λ m l. record { there = h; fits = fit-two h; does = refl }) h)
     decision-performs Meet = short-good Meet 2 1 _ refl (omega arith) (λ h. two-labels Meeting (λ m l. Labelled (P .meet l m)) (λ m l. record { there = h; fits = fit-two h; does = refl }) h)
     decision-performs Seal = short-good Seal 2 1 _ refl (omega arith) (λ h. makes-good Sealed h)

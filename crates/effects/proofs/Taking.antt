@@ -15,7 +15,7 @@ use Rattle.model.specs.declared.Account.{Account}
 use Rattle.model.specs.Effects.{Next, go, stop, fail, holding, sealOutcome, bodyControl, bodyAccount}
 use Rattle.store.specs.Records.{recordLabel, recordValue, rewritten}
 use Rattle.operands.specs.Program.{program}
-use Rattle.operands.specs.Tasks.{labelOf, faulty}
+use Rattle.operands.specs.Tasks.{labelOf, thrown}
 use Rattle.operands.specs.declared.Effect.{Effect}
 use Rattle.operands.specs.declared.Effect.the-variants.{Fault, Drop, Jump, Number as Gives, Handle as GivesHandle, Label as GivesLabel, Pair as GivesPair, Get, Set, Try, Done, End, Raise, Lower, Make, Write, Open, Block}
 use Rattle.operands.specs.declared.Decision.{Decision}
@@ -107,8 +107,8 @@ module _ (code ws rs : List ℕ) (R : Runner) (c : Control) (a : Account) (σ : 
     pub does : settle code ws rs R (less (d .takes) c) a σ y x (d .effect) ≡ n
 
   -- a fault that changes nothing
-  pub good-fault : (code : ℕ) → Bounded c a → Good (faulty code) (fail code 0 c a σ)
-  good-fault code b = record { there = omega arith; fits = fit c a 0 0 b (omega arith) (omega (arith, b .stack)); does = refl }
+  pub good-fault : (code n : ℕ) → Bounded c a → Good (thrown code n) (fail code n c a σ)
+  good-fault code n b = record { there = omega arith; fits = fit c a 0 0 b (omega arith) (omega (arith, b .stack)); does = refl }
 
   -- one test on both sides
   pub good-cond : (b : Bool) {d e : Decision} {n m : Next} → (b ≡ true → Good d n) → (b ≡ false → Good e m) → Good (cond b d e) (cond b n m)

@@ -41,34 +41,51 @@ use Rattle.operands.specs.Tasks.{decided, thrown, faulty, onNumbers, labelsOf}
 
 -- ── the checks ──
 
--- d where a flow test answers 0; else a fault, with the answer as its number
-abbrev pub passingOf : ℕ → ℕ → Decision → Decision
-passingOf answer code d = cond (eqb answer 0) d (thrown code answer)
+-- what follows where a flow test answers 0; else a fault, with the answer as its number
+abbrev pub flowing : ℕ → ℕ → Decision → Decision
+flowing code answer d = cond (eqb answer 0) d (thrown code answer)
 
--- the current label flows to l, and l to the clearance
-abbrev pub betweenOf : Label → Label → Label → ℕ → ℕ → Decision → Decision
-betweenOf label clearance l first second d = passingOf (flowTest label l) first (passingOf (flowTest l clearance) second d)
+-- 23 and 24, as the code of the fault; 0 is none
+unfoldable pub targetOf : Label → Label → Label → ℕ
+targetOf label clearance l = cond (flows label l) (cond (flows l clearance) 0 24) 23
 
--- the raised label flows to the clearance
-abbrev pub risingOf : Label → Label → Label → Decision → Decision
-risingOf label clearance l d = passingOf (flowTest (join label l) clearance) 24 d
+-- the number of 23 or 24: the answer of the first failing of the two tests
+unfoldable pub firstFailing : Label → Label → Label → ℕ
+firstFailing label clearance l = cond (eqb (flowTest label l) 0) (flowTest l clearance) (flowTest label l)
+
+-- what follows where 23 and 24 don't apply
+abbrev pub passing : Label → Label → Label → Decision → Decision
+passing label clearance l d =
+    cond (eqb (targetOf label clearance l) 0) d (thrown (targetOf label clearance l) (firstFailing label clearance l))
+
+-- what the raised label's flow test to the clearance answers: 24 of RAISE, OPEN and READ
+abbrev pub risesOf : Label → Label → Label → ℕ
+risesOf label clearance l = flowTest (join label l) clearance
 
 -- ── on a label ──
 
-abbrev pub makeOf : Account → Kind → Decision
-makeOf a h = cond (ltb (a .next) (a .limit)) (decided 2 (Make h)) (faulty 26)
+abbrev pub raiseOf : Label → Label → Label → Decision
+raiseOf label clearance l = flowing 24 (risesOf label clearance l) (decided 1 Raise)
 
-abbrev pub enterOf : Account → ℕ → ℕ → ℕ → Decision
-enterOf a t n k =
-    cond (ltb (a .depth) 8)
-    (cond (leb n (a .steps)) (cond (leb (a .next + 1 + k) (a .limit)) (decided 1 (Block t n k)) (faulty 26)) (faulty 27))
-    (faulty 28)
+abbrev pub lowerOf : Label → Label → Label → Decision
+lowerOf label clearance l = flowing 25 (flowTest label l) (flowing 25 (flowTest l clearance) (decided 1 Lower))
+
+abbrev pub makeOf : Account → Kind → Label → Decision
+makeOf a h l = passing (a .label) (a .clearance) l (cond (ltb (a .next) (a .limit)) (decided 2 (Make h)) (faulty 26))
+
+-- BLOCK's checks on its n and k, as the code of the fault; 0 is none
+abbrev pub roomOf : Account → ℕ → ℕ → ℕ
+roomOf a n k = cond (ltb (a .depth) 8) (cond (leb n (a .steps)) (cond (leb (a .next + 1 + k) (a .limit)) 0 26) 27) 28
+
+abbrev pub enterOf : Account → Label → ℕ → ℕ → ℕ → Decision
+enterOf a b t n k =
+    passing (a .label) (a .clearance) b (cond (eqb (roomOf a n k) 0) (decided 1 (Block t n k)) (faulty (roomOf a n k)))
 
 abbrev pub withLabelOf : OnLabel → Label → Account → Decision
-withLabelOf Raises l a = risingOf (a .label) (a .clearance) l (decided 1 Raise)
-withLabelOf Lowers l a = betweenOf (a .label) (a .clearance) l 25 25 (decided 1 Lower)
-withLabelOf (Makes h) l a = betweenOf (a .label) (a .clearance) l 23 24 (makeOf a h)
-withLabelOf (Blocks t n k) l a = betweenOf (a .label) (a .clearance) l 23 24 (enterOf a t n k)
+withLabelOf Raises l a = raiseOf (a .label) (a .clearance) l
+withLabelOf Lowers l a = lowerOf (a .label) (a .clearance) l
+withLabelOf (Makes h) l a = makeOf a h l
+withLabelOf (Blocks t n k) l a = enterOf a l t n k
 
 abbrev pub onLabel : OnLabel → Datum → Account → Decision
 onLabel f (Number n) a = faulty 22
@@ -83,12 +100,12 @@ isKind Sealed Reference = false
 isKind Reference Sealed = false
 isKind Reference Reference = true
 
-abbrev pub yieldedOf : ℕ → Contents → Decision
-yieldedOf p (Holds d) = decided 1 (Open p)
-yieldedOf p (Faulty code n) = decided 0 (Fault (ByRecord p) code n)
+abbrev pub yieldOf : ℕ → Contents → Decision
+yieldOf p (Holds d) = decided 1 (Open p)
+yieldOf p (Faulty code n) = decided 0 (Fault (ByRecord p) code n)
 
 abbrev pub openedOf : Label → Label → ℕ → Record → Decision
-openedOf label clearance p r = risingOf label clearance (r .label) (yieldedOf p (r .contents))
+openedOf label clearance p r = flowing 24 (risesOf label clearance (r .label)) (yieldOf p (r .contents))
 
 abbrev pub openOf : Label → Label → ℕ → Slot → Decision
 openOf label clearance p Empty = faulty 33
@@ -99,7 +116,7 @@ labelledOf p Empty = faulty 33
 labelledOf p (Full r) = decided 1 (GivesLabel (OfRecord p))
 
 abbrev pub rewriteOf : Label → Label → ℕ → Record → Decision
-rewriteOf label clearance p r = betweenOf label clearance (r .label) 23 24 (decided 2 (Write p))
+rewriteOf label clearance p r = passing label clearance (r .label) (decided 2 (Write p))
 
 abbrev pub writeOf : Label → Label → ℕ → Slot → Decision
 writeOf label clearance p Empty = faulty 33

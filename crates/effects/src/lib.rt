@@ -21,60 +21,113 @@ ghost use lib.ListN.{length, set};
 ghost use Rattle.model.specs.State.{at};
 ghost use Rattle.model.specs.Effects.{holding};
 ghost use Rattle.store.specs.Slots.{words, slots};
-ghost use Rattle.effects.specs.Decisions.{passingOf, betweenOf, risingOf, makeOf, enterOf, withLabelOf, onLabel, isKind, yieldedOf, openedOf, openOf, labelledOf, rewriteOf, writeOf, withHandle, onHandle, onLabels, labelFrom, pairedOf, raisedBy, sealedOf};
+ghost use Rattle.effects.specs.Decisions.{targetOf, firstFailing, risesOf, raiseOf, lowerOf, makeOf, roomOf, enterOf, withLabelOf, onLabel, isKind, openedOf, openOf, labelledOf, rewriteOf, writeOf, withHandle, onHandle, onLabels, labelFrom, pairedOf, raisedBy, sealedOf};
 
 // ---- the checks
 
-// What follows where a flow test answers 0; else a fault, with the answer as its number.
-fn passing(answer: u32, code: u32, d: Decision) -> Decision
-    ensures { λ r. ⌜ r ≡ passingOf answer code d ⌝ }
+// 23 and 24, as the code of the fault; 0 is none.
+fn target(label: Label, clearance: Label, l: Label) -> u32
+    ensures { λ r. ⌜ r ≡ targetOf label clearance l ⌝ }
 {
-    if answer != 0 {
-        return operands::thrown(code, answer);
+    if !labels::flows(label, l) {
+        return 23;
     }
-    d
+    if !labels::flows(l, clearance) {
+        return 24;
+    }
+    0
 }
 
-// 23 and 24, or 25 twice: the current label flows to l, and l to the clearance. The codes are those of the two tests.
-fn between(label: Label, clearance: Label, l: Label, first: u32, second: u32, d: Decision) -> Decision
-    ensures { λ r. ⌜ r ≡ betweenOf label clearance l first second d ⌝ }
+// The number of 23 or 24: the answer of the first failing of the two tests; 0 where both hold.
+fn first_failing(label: Label, clearance: Label, l: Label) -> u32
+    ensures { λ r. ⌜ r ≡ firstFailing label clearance l ⌝ }
 {
-    let above = passing(labels::flow_test(l, clearance), second, d);
-    passing(labels::flow_test(label, l), first, above)
+    let first = labels::flow_test(label, l);
+    if first != 0 {
+        return first;
+    }
+    labels::flow_test(l, clearance)
 }
 
-// 24 of RAISE, OPEN and READ: the raised label flows to the clearance.
-fn rising(label: Label, clearance: Label, l: Label, d: Decision) -> Decision
-    ensures { λ r. ⌜ r ≡ risingOf label clearance l d ⌝ }
+// What the raised label's flow test to the clearance answers: 24 of RAISE, OPEN and READ, unless it is 0.
+fn rises(label: Label, clearance: Label, l: Label) -> u32
+    ensures { λ r. ⌜ r ≡ risesOf label clearance l ⌝ }
 {
-    passing(labels::flow_test(labels::join(label, l), clearance), 24, d)
+    labels::flow_test(labels::join(label, l), clearance)
 }
 
 // ---- on a label
 
-// SEAL, NEW, once the label is checked.
-fn make(a: Account, kind: Kind) -> Decision
-    ensures { λ r. ⌜ r ≡ makeOf a kind ⌝ }
+fn raise(label: Label, clearance: Label, l: Label) -> Decision
+    ensures { λ r. ⌜ r ≡ raiseOf label clearance l ⌝ }
 {
+    let answer = rises(label, clearance, l);
+    if answer != 0 {
+        return operands::thrown(24, answer);
+    }
+    operands::decides(1, Effect::Raise)
+}
+
+fn lower(label: Label, clearance: Label, l: Label) -> Decision
+    ensures { λ r. ⌜ r ≡ lowerOf label clearance l ⌝ }
+{
+    let below = labels::flow_test(label, l);
+    let above = labels::flow_test(l, clearance);
+    if below != 0 {
+        return operands::thrown(25, below);
+    }
+    if above != 0 {
+        return operands::thrown(25, above);
+    }
+    operands::decides(1, Effect::Lower)
+}
+
+// SEAL, NEW.
+fn make(a: Account, kind: Kind, l: Label) -> Decision
+    ensures { λ r. ⌜ r ≡ makeOf a kind l ⌝ }
+{
+    let label = a.label;
+    let clearance = a.clearance;
+    let fault = target(label, clearance, l);
+    if fault != 0 {
+        return operands::thrown(fault, first_failing(label, clearance, l));
+    }
     if a.limit <= a.next {
         return operands::faulty(26);
     }
     operands::decides(2, Effect::Make(kind))
 }
 
-// BLOCK, once its bound is checked.
-fn enter(a: Account, t: usize, n: usize, k: usize) -> Decision
+// BLOCK's checks on its n and k, as the code of the fault; 0 is none.
+fn room(a: Account, n: usize, k: usize) -> u32
     requires { ⌜ a .next ≤ a .limit ⌝ }
-    ensures { λ r. ⌜ r ≡ enterOf a t n k ⌝ }
+    ensures { λ r. ⌜ r ≡ roomOf a n k ⌝ }
 {
     if 8 <= a.depth {
-        return operands::faulty(28);
+        return 28;
     }
     if a.steps < n {
-        return operands::faulty(27);
+        return 27;
     }
     if a.limit - a.next <= k {
-        return operands::faulty(26);
+        return 26;
+    }
+    0
+}
+
+fn enter(a: Account, b: Label, t: usize, n: usize, k: usize) -> Decision
+    requires { ⌜ a .next ≤ a .limit ⌝ }
+    ensures { λ r. ⌜ r ≡ enterOf a b t n k ⌝ }
+{
+    let label = a.label;
+    let clearance = a.clearance;
+    let fault = target(label, clearance, b);
+    if fault != 0 {
+        return operands::thrown(fault, first_failing(label, clearance, b));
+    }
+    let full = room(a, n, k);
+    if full != 0 {
+        return operands::faulty(full);
     }
     operands::decides(1, Effect::Block(t, n, k))
 }
@@ -86,10 +139,10 @@ fn with_label(f: OnLabel, l: Label, a: Account) -> Decision
     let label = a.label;
     let clearance = a.clearance;
     match f {
-        OnLabel::Raise => rising(label, clearance, l, operands::decides(1, Effect::Raise)),
-        OnLabel::Lower => between(label, clearance, l, 25, 25, operands::decides(1, Effect::Lower)),
-        OnLabel::Make(kind) => between(label, clearance, l, 23, 24, make(a, kind)),
-        OnLabel::Block(t, n, k) => between(label, clearance, l, 23, 24, enter(a, t, n, k)),
+        OnLabel::Raise => raise(label, clearance, l),
+        OnLabel::Lower => lower(label, clearance, l),
+        OnLabel::Make(kind) => make(a, kind, l),
+        OnLabel::Block(t, n, k) => enter(a, l, t, n, k),
     }
 }
 
@@ -122,24 +175,21 @@ fn is_kind(k: Kind, kind: Kind) -> bool
     }
 }
 
-// What opening contents comes to, once the label is checked: their value, or the fault that they are.
-fn yielded(p: usize, contents: Contents) -> Decision
-    ensures { λ r. ⌜ r ≡ yieldedOf p contents ⌝ }
+fn opened(label: Label, clearance: Label, p: usize, r: Record) -> Decision
+    ensures { λ e. ⌜ e ≡ openedOf label clearance p r ⌝ }
 {
+    let own = r.label;
+    let answer = rises(label, clearance, own);
+    if answer != 0 {
+        return operands::thrown(24, answer);
+    }
+    let contents = r.contents;
     match contents {
         Contents::Value(_) => operands::decides(1, Effect::Open(p)),
         Contents::Fault(code, number) => {
             operands::decides(0, Effect::Fault(By::Record(p), code, number))
         }
     }
-}
-
-fn opened(label: Label, clearance: Label, p: usize, r: Record) -> Decision
-    ensures { λ e. ⌜ e ≡ openedOf label clearance p r ⌝ }
-{
-    let l = r.label;
-    let contents = r.contents;
-    rising(label, clearance, l, yielded(p, contents))
 }
 
 // OPEN, READ.
@@ -168,7 +218,11 @@ fn rewrite(label: Label, clearance: Label, p: usize, r: Record) -> Decision
     ensures { λ e. ⌜ e ≡ rewriteOf label clearance p r ⌝ }
 {
     let l = r.label;
-    between(label, clearance, l, 23, 24, operands::decides(2, Effect::Write(p)))
+    let fault = target(label, clearance, l);
+    if fault != 0 {
+        return operands::thrown(fault, first_failing(label, clearance, l));
+    }
+    operands::decides(2, Effect::Write(p))
 }
 
 // WRITE.

@@ -1,6 +1,6 @@
 -- What an instruction can do to account and store: six effects. What holds of each holds of every instruction, and what
 -- goes through each goes through a run. Theorems on one run are proved by these two principles, once for each effect.
-use mathlib.Core.Bool.{true, _&&_, and-eq-true-iff}
+use mathlib.Core.Bool.{true}
 use mathlib.Core.List.{List, [], _∷_}
 use mathlib.Core.Path.{_≡_, refl}
 use Prim.Native.Nat.{ℕ, zero, suc, _+_, _-_, _≤_, _<_}

@@ -1,5 +1,4 @@
 -- Where an instruction lets a run go on. If N holds of every place that the code goes to from a place in N, a run stays in N.
-use mathlib.Core.Bool.{_&&_}
 use mathlib.Core.List.{List, [], _∷_}
 use Prim.Native.Nat.{ℕ, _+_, _-_}
 use lib.Dec.{leb, ltb, eqb}

@@ -1,5 +1,5 @@
 -- A run ends spent only where no step is left: an instruction that stops it gives a result or a fault.
-use mathlib.Core.Bool.{Bool, true, false, true≢false, _&&_}
+use mathlib.Core.Bool.{Bool, true, false, true≢false}
 use mathlib.Core.List.{List, [], _∷_}
 use mathlib.Core.Path.{_≡_, refl, sym, ap, _∙_}
 use Prim.Native.Nat.{ℕ, zero, suc, _+_, _≤_}
@@ -7,7 +7,7 @@ use native.Mathlib.Nat.{le-refl}
 use native.Mathlib.Omega.{arith}
 use lib.Dec.{leb, ltb}
 use Rattle.labels.specs.declared.Label.{Label}
-use Rattle.model.specs.State.{Control, Store, Program, flowsIn, Outcome, Runner, at, jump, withSteps}
+use Rattle.model.specs.State.{Control, Store, Program, flowsIn, Runner, at, jump, withSteps}
 use Rattle.model.specs.declared.Account.{Account}
 use Rattle.model.specs.Operands.{Request, none, ends, throws, raises, lowers, labels, opens, makes, writes, blocks, Plan, faults, asks, plan}
 use Rattle.model.specs.Effects.{Next, go, stop, failTo, fail, check, checkFlow, checkBetween, raised, yield, openSlot, labelSlot, writeSlot, act}

@@ -1,5 +1,5 @@
 -- One instruction in two runs: from states that an observer can't tell apart to states that the observer can't.
-use mathlib.Core.Bool.{Bool, true, false, cond, _&&_}
+use mathlib.Core.Bool.{Bool, true, false, cond}
 use mathlib.Core.List.{List, [], _∷_}
 use mathlib.Core.Path.{_≡_, refl, sym, ap, subst, subst₂}
 use Prim.Native.Nat.{ℕ, _+_, _-_, _≤_, _<_}

@@ -10,7 +10,7 @@ use native.Mathlib.Omega.{arith}
 use lib.ListN.{set, replicate, length-set}
 use lib.Seq.{getD-set-other}
 use Rattle.formulas.specs.Formula.{holds, table, implies}
-use Rattle.labels.specs.Order.{flows, join}
+use Rattle.labels.specs.Order.{flowTest, flows, join}
 use Rattle.label_entries.specs.Entries.{wellFormed, readEntry}
 use Rattle.model.specs.Decoding.{byte, u16, u32, operandBytes, known, size, instrs, fetch, after}
 use Rattle.model.specs.Operands.{popFrom, asNumber, asLabel, asHandle, asSealed, asReference, arity, dropFrame, operate, plan}
@@ -67,7 +67,7 @@ pub record Computed : Type 0 where
   pub opens-9 : byte (fileView (file 9) 1) 118 ≡ 9
 
 pub computed : Computed
-unfolding file template publicView legible holds table implies flows join wellFormed readEntry u16 u32 operandBytes known size instrs fetch after popFrom asNumber asLabel asHandle asSealed asReference arity dropFrame operate plan failTo yield openSlot labelSlot writeSlot contentsOf outcome act inputs handles inputSlots perform step resume pay run runs startStore header labelBytesOf recordBytesOf codeBytes readLabels labelsOf labelOf sweep starts operandsOk instrOk mayBeLast codeOk every sizeOk countsOk offsetsOk recordsOk passes1 passes2 passes3 passes4 passes5 passes6 passes7 refusal inputsOf fileProgram fileAccount fileRun littleEndian labelField datumField contentsField endingNumber resultField kindByte recordField shown slotField recordFields recordsShown counts final viewLength view fileView
+unfolding file template publicView legible holds table implies flowTest join wellFormed readEntry u16 u32 operandBytes known size instrs fetch after popFrom asNumber asLabel asHandle asSealed asReference arity dropFrame operate plan failTo yield openSlot labelSlot writeSlot contentsOf outcome act inputs handles inputSlots perform step resume pay run runs startStore header labelBytesOf recordBytesOf codeBytes readLabels labelsOf labelOf sweep starts operandsOk instrOk mayBeLast codeOk every sizeOk countsOk offsetsOk recordsOk passes1 passes2 passes3 passes4 passes5 passes6 passes7 refusal inputsOf fileProgram fileAccount fileRun littleEndian labelField datumField contentsField endingNumber resultField kindByte recordField shown slotField recordFields recordsShown counts final viewLength view fileView
 computed =
     record {
       legible-7 = refl;

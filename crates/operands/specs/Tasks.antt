@@ -67,7 +67,7 @@ numbersOf f y x = onNumber y (λ b. onNumber x (λ a. arithOf f b a))
 
 abbrev pub testOf : Test → ℕ → Decision
 testOf (Branch t) n = cond (eqb n 0) (decided 1 (Jumps t)) (decided 1 Drop)
-testOf Throws n = thrown 30 n
+testOf Throws n = decided 0 (Fault NotRaised 30 n)
 
 abbrev pub numberOf : Test → Datum → Decision
 numberOf f y = onNumber y (testOf f)

@@ -195,7 +195,7 @@ fn tested(f: Test, n: u32) -> Decision
             }
             decides(1, Effect::Drop)
         }
-        Test::Throw => thrown(30, n),
+        Test::Throw => decides(0, Effect::Fault(By::None, 30, n)),
     }
 }
 

@@ -5,13 +5,13 @@ use Rattle.effects.proofs.make.Statement.{statement}
 use Rattle.effects.proofs.make.Tie as tie
 
 refused : tie.Need-returns
-refused c = let i : tie.Then1 = search in let t : tie.After-target = search in rw (← t .target .ensures, ne-eqb _ _ (i .if1 .taken)) (c .faulty .ensures)
+refused c = let f : tie.After-first-failing = search in let i : tie.Then1 = search in let t : tie.After-target = search in rw (← t .target .ensures, ← f .first-failing .ensures, ne-eqb _ _ (i .if1 .taken)) (c .thrown .ensures)
 
 no-place : tie.Need-returns-2
-no-place c = let j : tie.Then2 = search in let i : tie.Else1 = search in let t : tie.After-target = search in rw (← t .target .ensures, eq-eqb (t .target .result) 0 (i .if1 .left), le-ltb _ _ (j .if2 .taken)) (c .faulty2 .ensures)
+no-place c = let j : tie.Then2 = search in let i : tie.Else1 = search in let t : tie.After-target = search in rw (← t .target .ensures, eq-eqb (t .target .result) 0 (i .if1 .left), le-ltb _ _ (j .if2 .taken)) (c .faulty .ensures)
 
 may-make : tie.Need-returns-3
 may-make c = let j : tie.Else2 = search in let i : tie.Else1 = search in let t : tie.After-target = search in rw (← t .target .ensures, eq-eqb (t .target .result) 0 (i .if1 .left), lt-ltb _ _ (j .if2 .left)) (c .decides .ensures)
 
 pub make-spec : {M : Type 1} → statement M
-make-spec = tie.close (tie.spec (λ c κs. search needs) (λ c κs. search needs) refused (λ c κs. search needs) no-place (λ c κs. search needs) may-make)
+make-spec = tie.close (tie.spec (λ c κs. search needs) (λ c κs. search needs) (λ c κs. search needs) refused (λ c κs. search needs) no-place (λ c κs. search needs) may-make)
