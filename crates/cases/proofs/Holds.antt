@@ -3,7 +3,7 @@ use mathlib.Core.Bool.{true}
 use mathlib.Core.List.{_++_}
 use mathlib.Core.Path.{_≡_, refl}
 use Rattle.formulas.specs.Formula.{table, implies, holds}
-use Rattle.labels.specs.Order.{flows, join, meet}
+use Rattle.labels.specs.Order.{flowTest, join, meet}
 use Rattle.label_entries.specs.Entries.{wellFormed, readEntry}
 use Rattle.model.specs.Decoding.{u16, u32, operandBytes, known, size, instrs, fetch, after}
 use Rattle.model.specs.Operands.{popFrom, asNumber, asLabel, asHandle, asSealed, asReference, arity, dropFrame, operate, plan}
@@ -25,11 +25,11 @@ use Rattle.cases.specs.Example.{example, exampleLine}
 use Rattle.file_sections.specs.Sections.{readLabels, inputsOf, labelBytesOf, labelOf, labelsOf, recordBytesOf}
 use Rattle.file_sections.specs.Checks.{every, recordsOk}
 
--- P1 to P12
+-- P1 to P12, and the cases of T-02
 pub all-cases-hold : allHold cases ≡ true
-unfolding table implies holds flows join meet wellFormed readEntry u16 u32 operandBytes known size instrs fetch after popFrom asNumber asLabel asHandle asSealed asReference arity dropFrame operate plan inputs handles inputSlots failTo yield openSlot labelSlot writeSlot contentsOf outcome act perform step resume pay run runs startStore header labelBytesOf recordBytesOf codeBytes readLabels labelsOf labelOf sweep starts operandsOk instrOk mayBeLast codeOk every sizeOk countsOk offsetsOk recordsOk passes1 passes2 passes3 passes4 passes5 passes6 passes7 refusal inputsOf fileProgram fileAccount fileRun littleEndian labelField datumField contentsField resultField kindByte recordField slotField
+unfolding table implies holds flowTest join meet wellFormed readEntry u16 u32 operandBytes known size instrs fetch after popFrom asNumber asLabel asHandle asSealed asReference arity dropFrame operate plan inputs handles inputSlots failTo yield openSlot labelSlot writeSlot contentsOf outcome act perform step resume pay run runs startStore header labelBytesOf recordBytesOf codeBytes readLabels labelsOf labelOf sweep starts operandsOk instrOk mayBeLast codeOk every sizeOk countsOk offsetsOk recordsOk passes1 passes2 passes3 passes4 passes5 passes6 passes7 refusal inputsOf fileProgram fileAccount fileRun littleEndian labelField datumField contentsField resultField kindByte recordField slotField
 all-cases-hold = refl
 
 pub example-printed : printed example ≡ exampleLine ++ exampleLine
-unfolding table implies holds flows join meet wellFormed readEntry u16 u32 operandBytes known size instrs fetch after popFrom asNumber asLabel asHandle asSealed asReference arity dropFrame operate plan inputs handles inputSlots failTo yield openSlot labelSlot writeSlot contentsOf outcome act perform step resume pay run runs startStore header labelBytesOf recordBytesOf codeBytes readLabels labelsOf labelOf sweep starts operandsOk instrOk mayBeLast codeOk every sizeOk countsOk offsetsOk recordsOk passes1 passes2 passes3 passes4 passes5 passes6 passes7 refusal inputsOf fileProgram fileAccount fileRun littleEndian labelField datumField contentsField resultField kindByte recordField slotField endingNumber shown recordFields recordsShown counts final viewLength view fileView hex frontFields recordFieldWidths widths spaced line lines digits decimal refusedLine printed
+unfolding table implies holds flowTest join meet wellFormed readEntry u16 u32 operandBytes known size instrs fetch after popFrom asNumber asLabel asHandle asSealed asReference arity dropFrame operate plan inputs handles inputSlots failTo yield openSlot labelSlot writeSlot contentsOf outcome act perform step resume pay run runs startStore header labelBytesOf recordBytesOf codeBytes readLabels labelsOf labelOf sweep starts operandsOk instrOk mayBeLast codeOk every sizeOk countsOk offsetsOk recordsOk passes1 passes2 passes3 passes4 passes5 passes6 passes7 refusal inputsOf fileProgram fileAccount fileRun littleEndian labelField datumField contentsField resultField kindByte recordField slotField endingNumber shown recordFields recordsShown counts final viewLength view fileView hex frontFields recordFieldWidths widths spaced line lines digits decimal refusedLine printed
 example-printed = refl

@@ -1,4 +1,5 @@
--- The bench cases P1 to P12 as one table, and the printed example.
+-- The bench cases P1 to P12 and those of T-02 as one table, and the printed example.
 pub mod Machine
+pub mod WhichHalf
 pub mod Table
 pub mod Example

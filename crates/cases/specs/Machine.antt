@@ -15,7 +15,7 @@ use Rattle.view.specs.Layout.{slotField}
 use Rattle.file_sections.specs.Checks.{every}
 
 -- the file of l label entries, c input records, a code, s steps and k places
-abbrev file : ℕ → List ℕ → ℕ → List ℕ → List ℕ → ℕ → ℕ → List ℕ
+abbrev pub file : ℕ → List ℕ → ℕ → List ℕ → List ℕ → ℕ → ℕ → List ℕ
 file l labels c records code s k =
     littleEndian 2 l ++ littleEndian 2 16
     ++ littleEndian 2 c ++ littleEndian 2 (16 + length labels)
@@ -24,10 +24,10 @@ file l labels c records code s k =
     ++ labels ++ records ++ code
 
 -- label entries: ⟨True, True⟩, which is public, and ⟨player, True⟩
-abbrev publicEntry : List ℕ
+abbrev pub publicEntry : List ℕ
 publicEntry = 0 ∷ 0 ∷ []
 
-abbrev playerEntry : List ℕ
+abbrev pub playerEntry : List ℕ
 playerEntry = 1 ∷ 0 ∷ 0x01 ∷ []
 
 abbrev public : Label
@@ -39,12 +39,25 @@ sameBytes [] (c ∷ cs) = false
 sameBytes (b ∷ bs) [] = false
 sameBytes (b ∷ bs) (c ∷ cs) = eqb b c && sameBytes bs cs
 
--- P9: INPUT 0, OPEN, END under a public clearance; record 0 is sealed, ⟨player, True⟩, number 7
+-- the file is taken, and the result field of its run is this
+abbrev endsIn : List ℕ → List ℕ → Bool
+endsIn bs field = every (eqb (refusal bs) 0 ∷ sameBytes (resultField (fileRun bs .ending)) field ∷ [])
+
+-- its run ends with a fault of this code and number
+abbrev pub faultsWith : List ℕ → ℕ → ℕ → Bool
+faultsWith bs code n = endsIn bs (valueField 5 code n)
+
+-- its run ends with this number as its result
+abbrev pub resultIs : List ℕ → ℕ → Bool
+resultIs bs n = endsIn bs (valueField 1 n 0)
+
+-- P9: INPUT 0, OPEN, END under a public clearance; record 0 is sealed, ⟨player, True⟩, number 7. By T-02 the fault has
+-- number 1: secrecy fails.
 abbrev p9 : List ℕ
 p9 = file 3 (publicEntry ++ publicEntry ++ playerEntry) 1 (0 ∷ 2 ∷ littleEndian 4 7) (0x1D ∷ 0 ∷ 0x14 ∷ 0x00 ∷ []) 10 1
 
 abbrev holds9 : Bool
-holds9 = every (eqb (refusal p9) 0 ∷ sameBytes (resultField (fileRun p9 .ending)) (valueField 5 24 0) ∷ [])
+holds9 = faultsWith p9 24 1
 
 -- P10: LAB 0, BLOCK with the body at 9, 5 steps and no places, END; the body is INPUT 0, OPEN, END. The clearance and
 -- record 0 are ⟨player, True⟩. The outcome is at place 1.
@@ -73,9 +86,7 @@ abbrev p12 : List ℕ
 p12 = file 2 (publicEntry ++ publicEntry) 0 [] (0x01 ∷ 5 ∷ 0 ∷ 0 ∷ 0 ∷ 0x00 ∷ []) 1 0
 
 abbrev holds12 : Bool
-holds12 =
-    every
-    (eqb (refusal p12) 0 ∷ sameBytes (resultField (fileRun p12 .ending)) (valueField 0 0 0) ∷ eqb (1 - fileRun p12 .account .steps) 1 ∷ [])
+holds12 = every (endsIn p12 (valueField 0 0 0) ∷ eqb (1 - fileRun p12 .account .steps) 1 ∷ [])
 
 abbrev pub machineCases : List Case
 machineCases =

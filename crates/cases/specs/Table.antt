@@ -1,7 +1,8 @@
--- Bench cases: "Put P1 to P12 into one table checked by one fact about it".
+-- Bench cases: "Put P1 to P12 into one table checked by one fact about it". T-02's follow them.
 use mathlib.Core.List.{List, _++_}
 use Rattle.labels.specs.Cases.{Case, labelCases}
 use Rattle.cases.specs.Machine.{machineCases}
+use Rattle.cases.specs.WhichHalf.{whichHalfCases}
 
 abbrev pub cases : List Case
-cases = labelCases ++ machineCases
+cases = labelCases ++ machineCases ++ whichHalfCases
