@@ -20,6 +20,10 @@ at-most-3 true false = omega arith
 at-most-3 false true = omega arith
 at-most-3 false false = omega arith
 
+pub flow-test-at-most-3 : (a b : Label) → flowTest a b ≤ 3
+unfolding flowTest
+flow-test-at-most-3 a b = at-most-3 (implies (b .secrecy) (a .secrecy)) (implies (a .integrity) (b .integrity))
+
 -- ── it flows where both hold ──
 
 zero : (p q : Bool) → eqb (answer p q) 0 ≡ p && q
