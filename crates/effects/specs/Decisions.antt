@@ -58,14 +58,17 @@ abbrev pub passing : Label → Label → Label → Decision → Decision
 passing label clearance l d =
     cond (eqb (targetOf label clearance l) 0) d (thrown (targetOf label clearance l) (firstFailing label clearance l))
 
--- what the raised label's flow test to the clearance answers: 24 of RAISE, OPEN and READ
-abbrev pub risesOf : Label → Label → Label → ℕ
-risesOf label clearance l = flowTest (join label l) clearance
+abbrev pub risesOf : Label → Label → Label → Bool
+risesOf label clearance l = flows (join label l) clearance
+
+-- 24 of RAISE, OPEN and READ: the raised label doesn't flow to the clearance
+abbrev pub tooHigh : Label → Label → Label → Decision
+tooHigh label clearance l = thrown 24 (flowTest (join label l) clearance)
 
 -- ── on a label ──
 
 abbrev pub raiseOf : Label → Label → Label → Decision
-raiseOf label clearance l = flowing 24 (risesOf label clearance l) (decided 1 Raise)
+raiseOf label clearance l = cond (risesOf label clearance l) (decided 1 Raise) (tooHigh label clearance l)
 
 abbrev pub lowerOf : Label → Label → Label → Decision
 lowerOf label clearance l = flowing 25 (flowTest label l) (flowing 25 (flowTest l clearance) (decided 1 Lower))
@@ -105,7 +108,7 @@ yieldOf p (Holds d) = decided 1 (Open p)
 yieldOf p (Faulty code n) = decided 0 (Fault (ByRecord p) code n)
 
 abbrev pub openedOf : Label → Label → ℕ → Record → Decision
-openedOf label clearance p r = flowing 24 (risesOf label clearance (r .label)) (yieldOf p (r .contents))
+openedOf label clearance p r = cond (risesOf label clearance (r .label)) (yieldOf p (r .contents)) (tooHigh label clearance (r .label))
 
 abbrev pub openOf : Label → Label → ℕ → Slot → Decision
 openOf label clearance p Empty = faulty 33

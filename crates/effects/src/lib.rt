@@ -21,9 +21,9 @@ ghost use lib.ListN.{length, set};
 ghost use Rattle.model.specs.State.{at};
 ghost use Rattle.model.specs.Effects.{holding};
 ghost use Rattle.store.specs.Slots.{words, slots};
-ghost use Rattle.effects.specs.Decisions.{targetOf, firstFailing, risesOf, raiseOf, lowerOf, makeOf, roomOf, enterOf, withLabelOf, onLabel, isKind, openedOf, openOf, labelledOf, rewriteOf, writeOf, withHandle, onHandle, onLabels, labelFrom, pairedOf, raisedBy, sealedOf};
+ghost use Rattle.effects.specs.Decisions.{targetOf, firstFailing, risesOf, tooHigh, raiseOf, lowerOf, makeOf, roomOf, enterOf, withLabelOf, onLabel, isKind, openedOf, openOf, labelledOf, rewriteOf, writeOf, withHandle, onHandle, onLabels, labelFrom, pairedOf, raisedBy, sealedOf};
 
-// ---- the checks
+// ---- the checks. A fault's number is worked out once a check has failed, so that one that holds takes no longer.
 
 // 23 and 24, as the code of the fault; 0 is none.
 fn target(label: Label, clearance: Label, l: Label) -> u32
@@ -49,11 +49,18 @@ fn first_failing(label: Label, clearance: Label, l: Label) -> u32
     labels::flow_test(l, clearance)
 }
 
-// What the raised label's flow test to the clearance answers: 24 of RAISE, OPEN and READ, unless it is 0.
-fn rises(label: Label, clearance: Label, l: Label) -> u32
+// The raised label flows to the clearance.
+fn rises(label: Label, clearance: Label, l: Label) -> bool
     ensures { λ r. ⌜ r ≡ risesOf label clearance l ⌝ }
 {
-    labels::flow_test(labels::join(label, l), clearance)
+    labels::flows(labels::join(label, l), clearance)
+}
+
+// 24 of RAISE, OPEN and READ: the raised label doesn't flow to the clearance.
+fn too_high(label: Label, clearance: Label, l: Label) -> Decision
+    ensures { λ r. ⌜ r ≡ tooHigh label clearance l ⌝ }
+{
+    operands::thrown(24, labels::flow_test(labels::join(label, l), clearance))
 }
 
 // ---- on a label
@@ -61,9 +68,8 @@ fn rises(label: Label, clearance: Label, l: Label) -> u32
 fn raise(label: Label, clearance: Label, l: Label) -> Decision
     ensures { λ r. ⌜ r ≡ raiseOf label clearance l ⌝ }
 {
-    let answer = rises(label, clearance, l);
-    if answer != 0 {
-        return operands::thrown(24, answer);
+    if !rises(label, clearance, l) {
+        return too_high(label, clearance, l);
     }
     operands::decides(1, Effect::Raise)
 }
@@ -71,13 +77,11 @@ fn raise(label: Label, clearance: Label, l: Label) -> Decision
 fn lower(label: Label, clearance: Label, l: Label) -> Decision
     ensures { λ r. ⌜ r ≡ lowerOf label clearance l ⌝ }
 {
-    let below = labels::flow_test(label, l);
-    let above = labels::flow_test(l, clearance);
-    if below != 0 {
-        return operands::thrown(25, below);
+    if !labels::flows(label, l) {
+        return operands::thrown(25, labels::flow_test(label, l));
     }
-    if above != 0 {
-        return operands::thrown(25, above);
+    if !labels::flows(l, clearance) {
+        return operands::thrown(25, labels::flow_test(l, clearance));
     }
     operands::decides(1, Effect::Lower)
 }
@@ -179,9 +183,8 @@ fn opened(label: Label, clearance: Label, p: usize, r: Record) -> Decision
     ensures { λ e. ⌜ e ≡ openedOf label clearance p r ⌝ }
 {
     let own = r.label;
-    let answer = rises(label, clearance, own);
-    if answer != 0 {
-        return operands::thrown(24, answer);
+    if !rises(label, clearance, own) {
+        return too_high(label, clearance, own);
     }
     let contents = r.contents;
     match contents {
