@@ -107,7 +107,8 @@ contentsOf (Result d) = Holds d
 contentsOf (Faulted code n) = Fault code n
 contentsOf Spent = Fault 32 0
 
--- "if the label at the end doesn't flow to the bound, fault 31 however it ended"
+-- "if the label at the end doesn't flow to the bound, fault 31 however it ended"; with number 0, since the half that failed
+-- would tell what the body has read
 unfoldable pub outcome : Program → Label → Outcome → Contents
 outcome P b o = cond (flowsIn P (o .account .label) b) (contentsOf (o .ending)) (Fault 31 0)
 
