@@ -25,7 +25,7 @@ use Rattle.cases.specs.Example.{example, exampleLine}
 use Rattle.file_sections.specs.Sections.{readLabels, inputsOf, labelBytesOf, labelOf, labelsOf, recordBytesOf}
 use Rattle.file_sections.specs.Checks.{every, recordsOk}
 
--- P1 to P12, and the cases of T-02
+-- P1 to P12, and the cases of T-02 and T-03
 pub all-cases-hold : allHold cases ≡ true
 unfolding table implies holds flowTest join meet wellFormed readEntry u16 u32 operandBytes known size instrs fetch after popFrom asNumber asLabel asHandle asSealed asReference arity dropFrame operate plan inputs handles inputSlots failTo yield openSlot labelSlot writeSlot contentsOf outcome act perform step resume pay run runs startStore header labelBytesOf recordBytesOf codeBytes readLabels labelsOf labelOf sweep starts operandsOk instrOk mayBeLast codeOk every sizeOk countsOk offsetsOk recordsOk passes1 passes2 passes3 passes4 passes5 passes6 passes7 refusal inputsOf fileProgram fileAccount fileRun littleEndian labelField datumField contentsField resultField kindByte recordField slotField
 all-cases-hold = refl

@@ -30,10 +30,10 @@ publicEntry = 0 ∷ 0 ∷ []
 abbrev pub playerEntry : List ℕ
 playerEntry = 1 ∷ 0 ∷ 0x01 ∷ []
 
-abbrev public : Label
+abbrev pub public : Label
 public = label [] []
 
-abbrev sameBytes : List ℕ → List ℕ → Bool
+abbrev pub sameBytes : List ℕ → List ℕ → Bool
 sameBytes [] [] = true
 sameBytes [] (c ∷ cs) = false
 sameBytes (b ∷ bs) [] = false
@@ -50,6 +50,10 @@ faultsWith bs code n = endsIn bs (valueField 5 code n)
 -- its run ends with this number as its result
 abbrev pub resultIs : List ℕ → ℕ → Bool
 resultIs bs n = endsIn bs (valueField 1 n 0)
+
+-- its run ends with this label as its result
+abbrev pub resultIsLabel : List ℕ → Label → Bool
+resultIsLabel bs l = endsIn bs (valueField 2 (l .secrecy) (l .integrity))
 
 -- P9: INPUT 0, OPEN, END under a public clearance; record 0 is sealed, ⟨player, True⟩, number 7. By T-02 the fault has
 -- number 1: secrecy fails.

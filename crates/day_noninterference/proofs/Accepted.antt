@@ -13,6 +13,7 @@ use Rattle.model.specs.Decoding.{u16}
 use Rattle.model.specs.Inputs.{inputSlots}
 use Rattle.model.specs.Running.{startControl, startStore}
 use Rattle.model.proofs.Reached.{Reached, anyLabel}
+use Rattle.model.proofs.Cap.{Capped, cap-holds, cap-at-end}
 use Rattle.view_fields.specs.Fields.{littleEndian}
 use Rattle.view.proofs.LengthField.{length-field-places}
 use Rattle.day_file.specs.Sections.{dayHeader, dayLabel, dayInputs, dayJobs, span}
@@ -24,6 +25,7 @@ use Rattle.day_file.proofs.Answers.{within-limits, in-place, jobs-fit, spans-fi
 use Rattle.day.specs.Running.{jobProgram, jobAccount, jobRun, storeAfter, Turn, skipped, ran, turns, admitted, dayTurns}
 use Rattle.day.specs.Views.{skippedView, turnView}
 use Rattle.day.proofs.Between.{Free, count-inputs, start-free, job-fresh, job-sized, after-free}
+use Rattle.noninterference.proofs.Demand3.{preorder}
 use Rattle.noninterference.proofs.Accepted.{OnCode, every-label, reached-on-code, start-closed}
 use Rattle.day_noninterference.proofs.JobEnd.{other-program}
 use Rattle.day_noninterference.proofs.Turns.{Between, betweenJobs, after-between}
@@ -95,6 +97,21 @@ module _ (bs : List ℕ) (none : dayRefusal bs ≡ 0) where
       reached-on-code (dayHeader bs .labels .count) (dayHeader bs .records .count) (span bs j) (dayLabel bs) (dayInputs bs) (s .pass .0)
       (span-there j (s .fit .0)) (jobAccount bs j) σ (job-fresh bs j σ (s .fit .0 .places) (s .between .left))
       (other-program (betweenJobs bs) (jobProgram bs j) anyLabel σ σ refl (s .between .same))
+
+  -- The cap holds of admitted jobs, each with its own starting clearance.
+  pub job-capped : {j : Job} {js : List Job} {ads : List Bool} {σ : Store} → Comes bs (j ∷ js) (true ∷ ads) σ
+      → (c : Control) (a : Account) (τ : Store) → Reached (jobProgram bs j) startControl (jobAccount bs j) σ c a τ
+      → Capped (jobProgram bs j) (dayLabel bs (j .clearance)) c a
+  unfolding jobProgram jobAccount
+  job-capped {j = j} {σ = σ} h =
+      cap-holds (jobProgram bs j) (preorder (span bs j) (dayLabel bs) (dayInputs bs)) startControl (jobAccount bs j) σ refl (comes-sound h .fit .0 .starts)
+
+  pub job-ends-capped : {j : Job} {js : List Job} {ads : List Bool} {σ : Store} → Comes bs (j ∷ js) (true ∷ ads) σ
+      → (flows (jobRun bs j σ .account .label) (jobRun bs j σ .account .clearance) ≡ true)
+      × (flows (jobRun bs j σ .account .clearance) (dayLabel bs (j .clearance)) ≡ true)
+  unfolding jobProgram jobAccount jobRun
+  job-ends-capped {j = j} {σ = σ} h =
+      cap-at-end (jobProgram bs j) (preorder (span bs j) (dayLabel bs) (dayInputs bs)) startControl (jobAccount bs j) σ refl (comes-sound h .fit .0 .starts)
 
 -- ── the length fields ──
 

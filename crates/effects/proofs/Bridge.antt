@@ -204,7 +204,7 @@ module _ (code ws rs : List ℕ) (R : Runner) (c : Control) (a : Account) (σ : 
 
     try-good : (h : ℕ) (z : Bool) → ltb (length (c .frames)) 8 ≡ z → height + 2 ≤ 32
         → Does y x (decides (cond z (Do (decided 0 (Tries h))) (Do (faulty 29))))
-        (cond z (asks (withFrames (record { handler = h; height = length (c .stack) } ∷ c .frames) c) none) (faults 29))
+        (cond z (asks (withFrames (record { handler = h; height = length (c .stack); clearance = a .clearance } ∷ c .frames) c) none) (faults 29))
     unfolding perform act
     try-good h true e r =
         let g : Fits (less 0 c) a 2 0 0 0 = fit c a 0 2 b (omega arith) (omega (arith, r)) in

@@ -87,7 +87,7 @@ module _ (code ws rs : List ℕ) (R : Runner) (c : Control) (a : Account) (σ : 
   settle (GivesPair f) = go (push (Labelled (pairedOf f (labelOf y) (labelOf x))) c) a σ
   settle (Get i) = go (push (getD (c .locals) i (number 0) .datum) c) a σ
   settle (Set i) = go (setLocal i y c) a σ
-  settle (Try h) = go (withFrames (record { handler = h; height = length (c .stack) } ∷ c .frames) c) a σ
+  settle (Try h) = go (withFrames (record { handler = h; height = length (c .stack); clearance = a .clearance } ∷ c .frames) c) a σ
   settle Done = go (withFrames (drop 1 (c .frames)) c) a σ
   settle End = stop (Result y) a σ
   settle Raise = go c (withLabel (join (a .label) (labelOf y)) a) σ

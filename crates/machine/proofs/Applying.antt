@@ -43,13 +43,13 @@ fail-none : (s : State) (σ : Store) (code n : ℕ) → Ok s → s .newest ≡ 8
 unfolding failTo
 fail-none s σ code n o e = record { ok = o; eq = rw (drop-none (s .frames) (s .newest) 8 (o .frames .size) (omega arith)) }
 
-fail-some : (s : State) (σ : Store) (f : Frame) (code n : ℕ) → Ok s → Live s → s .newest < 8 → f ≡ getD (s .frames) (s .newest) no-frame → Ran (handled (f .handler) (f .height) code n s) σ (fail code n (control s) (account s) σ)
+fail-some : (s : State) (σ : Store) (f : Frame) (code n : ℕ) → Ok s → Live s → s .newest < 8 → f ≡ getD (s .frames) (s .newest) no-frame → Ran (handled f code n s) σ (fail code n (control s) (account s) σ)
 unfolding failTo
 fail-some s σ f code n o l h e =
     let low : f .height ≤ 30 = rw e (o .frames .low (s .newest)) in
     let m = min (32 - s .top) (f .height) in
     let small : m ≤ 30 = omega arith in
-    let s1 : State = caught (f .handler) m s in
+    let s1 : State = caught f m s in
     let o1 : Ok s1 = record { stack = record { index = omega arith; size = o .stack .size }; frames = record { index = omega arith; size = o .frames .size; low = o .frames .low }; locals = o .locals; places = o .places } in
     let p1 : 0 < s1 .top = omega arith in
     let s2 : State = pushed (number code) s1 in
@@ -60,7 +60,7 @@ fail-some s σ f code n o l h e =
     record {
       ok = ok-pushed (number n) s2 o2 p2;
       eq = next-live s3 l σ
-          ∙ ap (λ (c : Control). go c (account s) σ) (control-pushed (number n) s2 o2 p2 ∙ ap (push (Number n)) (control-pushed (number code) s1 o1 p1))
+          ∙ ap (λ (c : Control). go c (account s1) σ) (control-pushed (number n) s2 o2 p2 ∙ ap (push (Number n)) (control-pushed (number code) s1 o1 p1))
           ∙ rw (drop-one (s .frames) (s .newest) no-frame (omega arith), ← e, ← drop-cut (s .stack) (s .top) (f .height) 32 (o .stack .size) (o .stack .index));
     }
 
@@ -113,7 +113,7 @@ module _ (z : Decided) where
   pub does-end-fault : (by : By) (l : Label) (f n : ℕ) → l ≡ raisedBy (s .label) by σ → s .newest ≡ 8 → Settled (ended (Faulted f n) (relabelled l s)) σ (Fault by f n)
   does-end-fault by l f n e h = rw (← e) (fail-none (relabelled l s) σ f n o h)
 
-  pub does-catch : (by : By) (l : Label) (f n : ℕ) (q : Frame) → l ≡ raisedBy (s .label) by σ → s .newest < 8 → q ≡ getD (s .frames) (s .newest) no-frame → Settled (handled (q .handler) (q .height) f n (relabelled l s)) σ (Fault by f n)
+  pub does-catch : (by : By) (l : Label) (f n : ℕ) (q : Frame) → l ≡ raisedBy (s .label) by σ → s .newest < 8 → q ≡ getD (s .frames) (s .newest) no-frame → Settled (handled q f n (relabelled l s)) σ (Fault by f n)
   does-catch by l f n q e h eq = rw (← e) (fail-some (relabelled l s) σ q f n o live h eq)
 
   pub does-drop : Settled s σ Drop

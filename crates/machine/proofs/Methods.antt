@@ -43,7 +43,7 @@ abbrev pub with-locals : List Value → State → State
 with-locals ls s = record { stack = s .stack; top = s .top; locals = ls; frames = s .frames; newest = s .newest; label = s .label; clearance = s .clearance; steps = s .steps; next = s .next; limit = s .limit; depth = s .depth; pc = s .pc; progress = s .progress }
 
 abbrev pub framed : ℕ → State → State
-framed h s = record { stack = s .stack; top = s .top; locals = s .locals; frames = set (s .frames) (s .newest - 1) (record { handler = h; height = 32 - s .top }); newest = s .newest - 1; label = s .label; clearance = s .clearance; steps = s .steps; next = s .next; limit = s .limit; depth = s .depth; pc = s .pc; progress = s .progress }
+framed h s = record { stack = s .stack; top = s .top; locals = s .locals; frames = set (s .frames) (s .newest - 1) (record { handler = h; height = 32 - s .top; clearance = s .clearance }); newest = s .newest - 1; label = s .label; clearance = s .clearance; steps = s .steps; next = s .next; limit = s .limit; depth = s .depth; pc = s .pc; progress = s .progress }
 
 abbrev pub unframed : State → State
 unframed s = record { stack = s .stack; top = s .top; locals = s .locals; frames = s .frames; newest = s .newest + 1; label = s .label; clearance = s .clearance; steps = s .steps; next = s .next; limit = s .limit; depth = s .depth; pc = s .pc; progress = s .progress }
@@ -81,23 +81,23 @@ ok-framed h s o p q =
       stack = o .stack;
       frames = record {
         index = let d = o .frames .index in omega arith;
-        size = length-set (s .frames) (s .newest - 1) (record { handler = h; height = 32 - s .top }) ∙ o .frames .size;
-        low = all-set (λ (f : Frame). f .height ≤ 30) (s .frames) (s .newest - 1) (record { handler = h; height = 32 - s .top }) no-frame (o .frames .low) (omega arith);
+        size = length-set (s .frames) (s .newest - 1) (record { handler = h; height = 32 - s .top; clearance = s .clearance }) ∙ o .frames .size;
+        low = all-set (λ (f : Frame). f .height ≤ 30) (s .frames) (s .newest - 1) (record { handler = h; height = 32 - s .top; clearance = s .clearance }) no-frame (o .frames .low) (omega arith);
       };
       locals = o .locals;
       places = o .places;
     }
 
-pub control-framed : (h : ℕ) (s : State) → Ok s → 0 < s .newest → control (framed h s) ≡ withFrames (record { handler = h; height = length (drop (s .top) (s .stack)) } ∷ drop (s .newest) (s .frames)) (control s)
+pub control-framed : (h : ℕ) (s : State) → Ok s → 0 < s .newest → control (framed h s) ≡ withFrames (record { handler = h; height = length (drop (s .top) (s .stack)); clearance = s .clearance } ∷ drop (s .newest) (s .frames)) (control s)
 control-framed h s o p =
     let i : s .newest - 1 + 1 ≡ s .newest = omega arith in
     let d = o .frames .index in
     let z = o .frames .size in
     let n : 32 - s .top ≡ length (drop (s .top) (s .stack)) = let e = stack-length s o in omega arith in
     ap (λ (l : List Frame). withFrames l (control s))
-    (drop-set (s .frames) (s .newest - 1) (record { handler = h; height = 32 - s .top }) (omega arith)
-    ∙ ap (λ (j : ℕ). record { handler = h; height = 32 - s .top } ∷ drop j (s .frames)) i
-    ∙ ap (λ (m : ℕ). record { handler = h; height = m } ∷ drop (s .newest) (s .frames)) n)
+    (drop-set (s .frames) (s .newest - 1) (record { handler = h; height = 32 - s .top; clearance = s .clearance }) (omega arith)
+    ∙ ap (λ (j : ℕ). record { handler = h; height = 32 - s .top; clearance = s .clearance } ∷ drop j (s .frames)) i
+    ∙ ap (λ (m : ℕ). record { handler = h; height = m; clearance = s .clearance } ∷ drop (s .newest) (s .frames)) n)
 
 pub next-live : (r : State) → Live r → (σ : Store) → nextOf r σ ≡ go (control r) (account r) σ
 next-live r e σ = ap (λ (h : Status). nextOn h (control r) (account r) σ) e

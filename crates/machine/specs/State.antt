@@ -18,7 +18,7 @@ use Rattle.machine.specs.declared.Status.the-variants.{Running, Ended}
 use Rattle.machine.specs.declared.State.{State}
 
 abbrev pub no-frame : Frame
-no-frame = record { handler = 0; height = 0 }
+no-frame = record { handler = 0; height = 0; clearance = record { secrecy = 0; integrity = 0 } }
 
 -- ── the invariant ──
 
@@ -97,9 +97,9 @@ charged n s = record { stack = s .stack; top = s .top; locals = s .locals; frame
 abbrev pub ended : Ending → State → State
 ended e s = record { stack = s .stack; top = s .top; locals = s .locals; frames = s .frames; newest = s .newest; label = s .label; clearance = s .clearance; steps = s .steps; next = s .next; limit = s .limit; depth = s .depth; pc = s .pc; progress = record { status = Ended e } }
 
--- the newest frame removed, the stack cut to its height, code and number pushed
-abbrev pub caught : ℕ → ℕ → State → State
-caught t n s = record { stack = s .stack; top = 32 - n; locals = s .locals; frames = s .frames; newest = s .newest + 1; label = s .label; clearance = s .clearance; steps = s .steps; next = s .next; limit = s .limit; depth = s .depth; pc = t; progress = s .progress }
+-- the newest frame removed, the stack cut to its height, its clearance given back, code and number pushed
+abbrev pub caught : Frame → ℕ → State → State
+caught f n s = record { stack = s .stack; top = 32 - n; locals = s .locals; frames = s .frames; newest = s .newest + 1; label = s .label; clearance = f .clearance; steps = s .steps; next = s .next; limit = s .limit; depth = s .depth; pc = f .handler; progress = s .progress }
 
-abbrev pub handled : ℕ → ℕ → ℕ → ℕ → State → State
-handled t h code n s = pushed (number n) (pushed (number code) (caught t (min (32 - s .top) h) s))
+abbrev pub handled : Frame → ℕ → ℕ → State → State
+handled f code n s = pushed (number n) (pushed (number code) (caught f (min (32 - s .top) (f .height)) s))

@@ -170,15 +170,17 @@ impl State {
         0 < self.steps
     }
 
-    // Goes on at a frame's handler, which gets a code and a number.
-    fn caught(mut self, handler: usize, height: usize, code: u32, number: u32) -> State
-        requires { ⌜ (self .top ≤ 32) × (self .newest < 8) × (height ≤ 30) ⌝ }
-        ensures { λ r. ⌜ r ≡ handled handler height code number self ⌝ }
+    // Goes on at a frame's handler, with the frame's clearance; the handler gets a code and a number.
+    fn caught(mut self, f: Frame, code: u32, number: u32) -> State
+        requires { ⌜ (self .top ≤ 32) × (self .newest < 8) × (f .height ≤ 30) ⌝ }
+        ensures { λ r. ⌜ r ≡ handled f code number self ⌝ }
     {
         let newest = self.newest;
-        let kept = values::least(32 - self.top, height);
+        let kept = values::least(32 - self.top, f.height);
+        let clearance = f.clearance;
         self.newest = newest + 1;
-        self.pc = handler;
+        self.pc = f.handler;
+        self.clearance = clearance;
         self.top = 32 - kept;
         let s = self.push(values::number(code));
         s.push(values::number(number))
@@ -248,7 +250,7 @@ impl State {
                         self = self.end(Ending::Fault(code, n));
                     } else {
                         let f = self.frames[newest];
-                        self = self.caught(f.handler, f.height, code, n);
+                        self = self.caught(f, code, n);
                     }
                 }
                 Effect::Drop => {}
@@ -305,9 +307,11 @@ impl State {
                 }
                 Effect::Try(h) => {
                     let newest = self.newest - 1;
+                    let clearance = self.clearance;
                     self.frames[newest] = Frame {
                         handler: h,
                         height: 32 - low,
+                        clearance,
                     };
                     self.newest = newest;
                 }
@@ -426,6 +430,10 @@ fn start(pc: usize, locals: [Value; 16], a: Account) -> State
         frames: [Frame {
             handler: 0,
             height: 0,
+            clearance: Label {
+                secrecy: 0,
+                integrity: 0,
+            },
         }; 8],
         top: 32,
         newest: 8,

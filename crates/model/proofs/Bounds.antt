@@ -40,8 +40,8 @@ within-runs P =
       pays = λ a σ n i e. record { steps = omega arith; next = le-refl (a .next); allotted = i; limit = refl; depth = refl };
       effects = λ R RW a σ i. record {
         keeps = within-same a i;
+        clears = λ b τ m k. record { steps = k .steps; next = k .next; allotted = k .allotted; limit = k .limit; depth = k .depth };
         raises-to = λ l e. record { steps = le-refl (a .steps); next = le-refl (a .next); allotted = i; limit = refl; depth = refl };
-        lowers-to = λ l e f. record { steps = le-refl (a .steps); next = le-refl (a .next); allotted = i; limit = refl; depth = refl };
         made = λ h l d e f lt. record { steps = le-refl (a .steps); next = omega arith; allotted = omega arith; limit = refl; depth = refl };
         written = λ p x d e f g. within-same a i;
         blocked = λ c b n k e f d le x. record { steps = omega arith; next = omega arith; allotted = le; limit = refl; depth = refl };

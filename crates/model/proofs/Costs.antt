@@ -6,7 +6,7 @@ use native.Mathlib.Omega.{arith}
 use lib.Dec.{leb, ltb}
 use borrow.Author.Tests.{leb-true}
 use Rattle.labels.specs.declared.Label.{Label}
-use Rattle.model.specs.State.{Control, Store, Program, flowsIn, Runner, at, jump, withSteps}
+use Rattle.model.specs.State.{Control, Store, Program, flowsIn, Runner, at, jump, withClearance, withSteps}
 use Rattle.model.specs.declared.Account.{Account}
 use Rattle.model.specs.Operands.{Request, none, ends, throws, raises, lowers, labels, opens, makes, writes, blocks, Plan, faults, asks, plan}
 use Rattle.model.specs.Effects.{Next, fail, checkBetween, checkTarget, raised, openSlot, labelSlot, writeSlot, act}
@@ -70,6 +70,10 @@ pub record Paid (x : Cost) (a b : Account) : Type 0 where
 paid-none : (a : Account) → Paid (costs 0 0) a a
 paid-none a = record { steps = omega arith; next = omega arith; limit = refl; depth = refl }
 
+-- a clearance costs nothing
+paid-clears : (a b : Account) (m : Label) → Paid (costs 0 0) a b → Paid (costs 0 0) a (withClearance m b)
+paid-clears a b m p = record { steps = p .steps; next = p .next; limit = p .limit; depth = p .depth }
+
 -- the first of the tests of a cost, which are in the order of the checks
 first-test : (G : Cost → Next → Type 0) (s t : Bool) (u : Cost) {x y : Next} → (s ≡ true → G (cond t u (costs 0 0)) x)
     → (s ≡ false → G (costs 0 0) y) → G (cond (s && t) u (costs 0 0)) (cond s x y)
@@ -81,7 +85,7 @@ module _ (P : Program) (R : Runner) (c : Control) (a : Account) (σ : Store) whe
   Costs x y = Paid x a (accountOf y)
 
   faulted : (code n : ℕ) → Costs (costs 0 0) (fail code n c a σ)
-  faulted code n = fail-of (λ b _. Paid (costs 0 0) a b) code n c a σ (paid-none a)
+  faulted code n = fail-of (λ b _. Paid (costs 0 0) a b) (λ b _ m p. paid-clears a b m p) code n c a σ (paid-none a)
 
   target-cost : (l : Label) (t : Bool) (u : Cost) (x : Next) → Costs (cond t u (costs 0 0)) x
       → Costs (cond (targetOk P a l && t) u (costs 0 0)) (checkTarget P l c a σ x)
@@ -102,7 +106,7 @@ module _ (P : Program) (R : Runner) (c : Control) (a : Account) (σ : Store) whe
   open-cost r Empty = faulted 33 0
   open-cost r (Full x) =
       cond-one (Costs (costs 0 0)) (flowsIn P (P .join (a .label) (x .label)) (a .clearance))
-      (λ _. yield-of (λ b _. Paid (costs 0 0) a b) c r (raised P (x .label) a) σ (x .contents)
+      (λ _. yield-of (λ b _. Paid (costs 0 0) a b) (λ b _ m p. paid-clears a b m p) c r (raised P (x .label) a) σ (x .contents)
       (record { steps = omega arith; next = omega arith; limit = refl; depth = refl }))
       (λ _. faulted 24 _)
 

@@ -1,5 +1,6 @@
 -- What an instruction can do to account and store: six effects. What holds of each holds of every instruction, and what
--- goes through each goes through a run. Theorems on one run are proved by these two principles, once for each effect.
+-- goes through each goes through a run. Theorems on one run are proved by these two principles, once for each effect. They
+-- are for what does not hang on the clearance, which a handler's frame changes; what does is in Landing.
 use mathlib.Core.Bool.{true}
 use mathlib.Core.List.{List, [], _∷_}
 use mathlib.Core.Path.{_≡_, refl}
@@ -36,12 +37,17 @@ storeOf (stop e a σ) = σ
 abbrev pub Of : (Account → Store → Type 0) → Next → Type 0
 Of G x = G (accountOf x) (storeOf x)
 
+-- G says nothing of the clearance
+abbrev pub AnyClearance : (Account → Store → Type 0) → Type 0
+AnyClearance G = (a : Account) (σ : Store) (m : Label) → G a σ → G (withClearance m a) σ
+
 -- G holds after each of the six effects on account a and store σ. Each effect comes with the checks that it passed.
 pub record Effects (P : Program) (R : Runner) (a : Account) (σ : Store) (G : Account → Store → Type 0) : Type 0 where
-  -- a fault, or a change of the script's part only
+  -- a fault that is not caught, or a change of the script's part only
   pub keeps : G a σ
+  -- LOWER; and a caught fault, which gives back a frame's clearance, OPEN's raise made before it
+  pub clears : AnyClearance G
   pub raises-to : (l : Label) → flowsIn P (P .join (a .label) l) (a .clearance) ≡ true → G (raised P l a) σ
-  pub lowers-to : (l : Label) → flowsIn P (a .label) l ≡ true → flowsIn P l (a .clearance) ≡ true → G (withClearance l a) σ
   pub made : (h : Kind) (l : Label) (d : Datum) → flowsIn P (a .label) l ≡ true → flowsIn P l (a .clearance) ≡ true → a .next < a .limit
       → G (withNext (a .next + 1) a) (set σ (a .next) (holding h l (Holds d)))
   pub written : (p : ℕ) (x : Record) (d : Datum) → at σ p ≡ Full x → flowsIn P (a .label) (x .label) ≡ true
@@ -53,24 +59,25 @@ pub record Effects (P : Program) (R : Runner) (a : Account) (σ : Store) (G : Ac
 
 -- ── one instruction ──
 
-module _ (G : Account → Store → Type 0) where
-  -- faults and contents leave account and store as they are
+module _ (G : Account → Store → Type 0) (clears : AnyClearance G) where
+  -- faults and contents leave the store as it is, and the account but for its clearance
   pub fail-of : (code n : ℕ) (c : Control) (a : Account) (σ : Store) → G a σ → Of G (fail code n c a σ)
   unfolding failTo
   fail-of code n c a σ g = frames (c .frames)
     where
       frames : (fs : List Frame) → Of G (failTo fs code n c a σ)
       frames [] = g
-      frames (f ∷ fs) = g
+      frames (f ∷ fs) = clears a σ (f .clearance) g
 
   pub yield-of : (c r : Control) (a : Account) (σ : Store) (x : Contents) → G a σ → Of G (yield c r a σ x)
   unfolding yield
   yield-of c r a σ (Holds d) g = g
   yield-of c r a σ (Fault code n) g = fail-of code n c a σ g
 
+module _ (G : Account → Store → Type 0) where
   module _ (P : Program) (R : Runner) (c : Control) (a : Account) (σ : Store) (E : Effects P R a σ G) where
     fails : (code n : ℕ) → Of G (fail code n c a σ)
-    fails code n = fail-of code n c a σ (E .keeps)
+    fails code n = fail-of G (E .clears) code n c a σ (E .keeps)
 
     between-of : (first second : ℕ) (l : Label) (x : Next) → (flowsIn P (a .label) l ≡ true → flowsIn P l (a .clearance) ≡ true → Of G x)
         → Of G (checkBetween P first second l c a σ x)
@@ -86,7 +93,7 @@ module _ (G : Account → Store → Type 0) where
     unfolding openSlot
     open-of r Empty = fails 33 0
     open-of r (Full x) =
-        raise-of (x .label) _ (λ e. yield-of c r (raised P (x .label) a) σ (x .contents) (E .raises-to (x .label) e))
+        raise-of (x .label) _ (λ e. yield-of G (E .clears) c r (raised P (x .label) a) σ (x .contents) (E .raises-to (x .label) e))
 
     label-of : (r : Control) (x : Slot) → Of G (labelSlot c r a σ x)
     unfolding labelSlot
@@ -104,7 +111,7 @@ module _ (G : Account → Store → Type 0) where
     act-of r (ends d) = E .keeps
     act-of r (throws n) = fails 30 n
     act-of r (raises l) = raise-of l _ (λ e. E .raises-to l e)
-    act-of r (lowers l) = between-of 25 25 l _ (λ f g. E .lowers-to l f g)
+    act-of r (lowers l) = between-of 25 25 l _ (λ _ _. E .clears a σ l (E .keeps))
     act-of r (labels p) = label-of r (at σ p)
     act-of r (opens p) = open-of r (at σ p)
     act-of r (makes h l d) =

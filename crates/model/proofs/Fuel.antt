@@ -25,8 +25,8 @@ module _ (P : Program) where
   spends-effects R a σ =
       record {
         keeps = le-refl (a .steps);
+        clears = λ b τ m g. g;
         raises-to = λ l e. le-refl (a .steps);
-        lowers-to = λ l e f. le-refl (a .steps);
         made = λ h l d e f lt. le-refl (a .steps);
         written = λ p x d e f g. le-refl (a .steps);
         blocked = λ c b n k e f d le x. omega arith;

@@ -176,9 +176,11 @@ module _ (P : Program) (Low : Label → Bool) (D : LowSet P Low) where
         pays = λ a σ n fr e. account-kept a (a .label) (a .clearance) n σ fr (λ u. u);
         effects = λ R RK a σ fr. record {
           keeps = kept-refl a σ fr;
+          clears = λ b τ m k. record {
+            within = k .within; fresh = k .fresh; sized = k .sized; shells = k .shells; stays = k .stays; hides = k .hides;
+          };
           raises-to = λ l e. account-kept a (P .join (a .label) l) (a .clearance) (a .steps) σ fr
               (up (a .label) (P .join (a .label) l) (D .join-left (a .label) l));
-          lowers-to = λ l e f. account-kept a (a .label) l (a .steps) σ fr (λ u. u);
           made = λ h l d e f lt. make-kept a σ h l (Holds d) fr lt e;
           written = λ p x d e f g. write-kept a σ p x (Holds d) fr e f;
           blocked = λ c b n k e f d le x. block-kept R RK c a σ b n k x fr le e;

@@ -19,3 +19,4 @@ pub mod Start
 -- Every state that a run reaches.
 pub mod Landing
 pub mod Reached
+pub mod Cap

@@ -1,24 +1,26 @@
 -- Every state that a run comes to, in itself or in the body of a block: the code goes on only where N holds, and no handle is
 -- to an empty place. So the definition's totals, an END past the code and fault 33 of an empty place, are never met.
 use mathlib.Core.Bool.{Bool, true, true≢false}
+use mathlib.Core.List.{List, [], _∷_}
 use mathlib.Core.Logic.{_≢_}
-use mathlib.Core.Path.{_≡_, ap, subst}
-use Prim.Native.Nat.{ℕ, suc, _+_, _≤_}
+use mathlib.Core.Path.{_≡_, sym, ap, subst}
+use Prim.Native.Nat.{ℕ, zero, suc, _+_, _≤_}
 use native.Mathlib.Omega.{arith}
 use Rattle.labels.specs.declared.Label.{Label}
-use Rattle.model.specs.State.{Control, Store, Program, at, jump, withSteps}
+use Rattle.model.specs.State.{Control, Store, Program, Outcome, Runner, at, jump, withSteps}
 use Rattle.model.specs.declared.Account.{Account}
 use Rattle.model.specs.Operands.{Request, none, ends, throws, raises, lowers, labels, opens, makes, writes, blocks, Plan, asks, plan}
 use Rattle.model.specs.Effects.{Next, go, stop, bodyControl, bodyAccount}
-use Rattle.model.specs.Running.{step, runs}
+use Rattle.model.specs.Running.{step, resume, pay, run, runs}
 use Rattle.model.specs.declared.Slot.the-variants.{Empty}
+use Rattle.model.specs.declared.Frame.{Frame}
 use Rattle.model.proofs.Effects.{accountOf, storeOf}
 use Rattle.model.proofs.Kept.{LowSet, shell, Fresh, RunnerKept, run-kept, step-kept}
 use Rattle.model.proofs.Plans.{Reach, InRequest, InPlan, plan-in}
 use Rattle.model.proofs.LowEquivalence.{Twin, LowEquivalent, LowNext, goes, stops, parts}
 use Rattle.model.proofs.TwoSteps.{step-two}
 use Rattle.model.proofs.TwoRuns.{two-runs}
-use Rattle.model.proofs.Landing.{Lands, Handlers, PlanLands, NextLands, plan-lands, step-lands}
+use Rattle.model.proofs.Landing.{Lands, Keeps, Holding, PlanLands, NextLands, all-dropped, plan-lands, step-lands}
 
 -- ── the statement ──
 
@@ -74,14 +76,78 @@ holds-in σ (blocks b t n k) i = tt
 abbrev pub anyLabel : Label → Bool
 anyLabel l = true
 
-module _ (P : Program) (D : LowSet P anyLabel) (N : ℕ → Type 0) (sound : (pc : ℕ) → N pc → Lands N (P .after pc) (P .fetch pc)) where
+-- ── a property of label, clearance and frames that every instruction keeps ──
+
+module _ (P : Program) (N : ℕ → Type 0) (H : Label → Label → List Frame → Type 0) (K : Keeps P N H)
+    (sound : (pc : ℕ) → N pc → Lands N (P .after pc) (P .fetch pc)) where
+  -- holds of every state, if of the first
+  pub reached-lands : (c₀ : Control) (a₀ : Account) (σ₀ : Store) → N (c₀ .pc) → Holding N H a₀ (c₀ .frames) → (c : Control) (a : Account) (σ : Store)
+      → Reached P c₀ a₀ σ₀ c a σ → N (c .pc) × Holding N H a (c .frames)
+  reached-lands c₀ a₀ σ₀ i g c a σ here = (i, g)
+  reached-lands c₀ a₀ σ₀ i g d b τ (next {c = c} {a = a} {σ = σ} n h e f) =
+      let s = reached-lands c₀ a₀ σ₀ i g c a σ h in
+      subst (NextLands N H) f (step-lands P N H K (runs P) c (withSteps n a) σ (sound (c .pc) (s .0)) (s .1))
+  reached-lands c₀ a₀ σ₀ i g d b τ (body {c = c} {r = r} {a = a} {σ = σ} n l t m k h e f le) =
+      let s = reached-lands c₀ a₀ σ₀ i g c a σ h in
+      let p = subst (PlanLands N H (withSteps n a)) f (plan-lands P N H K (withSteps n a) (behind P c) (P .fetch (c .pc)) (sound (c .pc) (s .0)) (s .1)) in
+      (p .0 .0, all-dropped P N H K (a .label) (a .clearance) (r .frames) (p .1))
+
+  -- of a runner: the account that it ends with
+  abbrev EndsHolding : Runner → Type 0
+  EndsHolding R = (c : Control) (a : Account) (σ : Store) → N (c .pc) → Holding N H a (c .frames) → Holding N H (R c a σ .account) []
+
+  resume-ends : (R : Runner) → EndsHolding R → (x : Next) → NextLands N H x → Holding N H (resume R x .account) []
+  unfolding resume
+  resume-ends R e (go c a σ) h = e c a σ (h .0) (h .1)
+  resume-ends R e (stop d a σ) h = h
+
+  pay-ends : (m : ℕ) (c : Control) (a : Account) (σ : Store) (k : Account → Outcome) → Holding N H a (c .frames)
+      → ((n : ℕ) → Holding N H (k (withSteps n a) .account) []) → Holding N H (pay m a σ k .account) []
+  unfolding pay
+  pay-ends zero c a σ k g h = all-dropped P N H K (a .label) (a .clearance) (c .frames) g
+  pay-ends (suc n) c a σ k g h = h n
+
+  run-ends : (f : ℕ) → EndsHolding (run P f)
+  unfolding run
+  run-ends zero c a σ i g = all-dropped P N H K (a .label) (a .clearance) (c .frames) g
+  run-ends (suc f) c a σ i g =
+      pay-ends (a .steps) c a σ (λ b. resume (run P f) (step P (run P f) c b σ)) g
+      (λ n. resume-ends (run P f) (run-ends f) (step P (run P f) c (withSteps n a) σ)
+      (step-lands P N H K (run P f) c (withSteps n a) σ (sound (c .pc) i) g))
+
+  -- and of the account that the run ends with
+  pub runs-ends : EndsHolding (runs P)
+  unfolding runs
+  runs-ends c a σ = run-ends (a .steps) c a σ
+
+-- the code goes on only where N holds, if the handlers of all frames are there
+abbrev Handlers : (ℕ → Type 0) → List Frame → Type 0
+Handlers N [] = Unit {0}
+Handlers N (f ∷ fs) = N (f .handler) × Handlers N fs
+
+handlers-keep : (P : Program) (N : ℕ → Type 0) → Keeps P N (λ l m fs. Handlers N fs)
+handlers-keep P N =
+    record {
+      tries = λ l m h n fs i g. (i, g);
+      drops = λ l m f fs g. g .1;
+      catches = λ l m f fs g. g;
+      raises-to = λ l m k fs e g. g;
+      lowers-to = λ l m k fs e f g. g;
+    }
+
+pub reached-in : (P : Program) (N : ℕ → Type 0) → ((pc : ℕ) → N pc → Lands N (P .after pc) (P .fetch pc)) → (c₀ : Control) (a₀ : Account) (σ₀ : Store)
+    → N (c₀ .pc) → c₀ .frames ≡ [] → (c : Control) (a : Account) (σ : Store) → Reached P c₀ a₀ σ₀ c a σ → N (c .pc)
+reached-in P N sound c₀ a₀ σ₀ i e c a σ h =
+    reached-lands P N (λ l m fs. Handlers N fs) (handlers-keep P N) sound c₀ a₀ σ₀ i (subst (Handlers N) (sym e) tt) c a σ h .0
+
+-- ── no handle is to an empty place ──
+
+module _ (P : Program) (D : LowSet P anyLabel) where
   -- of a store: no handle in it is to an empty place
   abbrev Closed : Store → Type 0
   Closed σ = LowEquivalent P anyLabel σ σ
 
   pub record Safe (c : Control) (a : Account) (σ : Store) : Type 0 where
-    pub at-start : N (c .pc)
-    pub handlers : Handlers N (c .frames)
     pub fresh : Fresh a σ
     pub reach : Reach (Twin σ σ) c
     pub closed : Closed σ
@@ -107,16 +173,11 @@ module _ (P : Program) (D : LowSet P anyLabel) (N : ℕ → Type 0) (sound : (pc
   safe-next : (c d : Control) (a b : Account) (σ τ : Store) → Safe c a σ → step P (runs P) c a σ ≡ go d b τ → Safe d b τ
   safe-next c d a b σ τ s e =
       record {
-        at-start = lands .0;
-        handlers = lands .1;
         fresh = subst (λ (x : Next). Fresh (accountOf x) (storeOf x)) e (step-kept P anyLabel D (runs P) runs-kept c a σ (s .fresh) .fresh);
         reach = two .0;
         closed = two .1;
       }
     where
-      lands : NextLands N (go d b τ)
-      lands = subst (NextLands N) e (step-lands N P (runs P) c a σ (sound (c .pc) (s .at-start)) (s .handlers))
-
       two : Both (go d b τ) (go d b τ)
       two = both (go d b τ) (go d b τ)
           (subst (λ (x : Next). LowNext P anyLabel x x) e
@@ -124,22 +185,17 @@ module _ (P : Program) (D : LowSet P anyLabel) (N : ℕ → Type 0) (sound : (pc
 
   -- its step paid, a state is as safe
   safe-paid : (c : Control) (a : Account) (σ : Store) (n : ℕ) → Safe c a σ → Safe c (withSteps n a) σ
-  safe-paid c a σ n s = record { at-start = s .at-start; handlers = s .handlers; fresh = s .fresh; reach = s .reach; closed = s .closed }
+  safe-paid c a σ n s = record { fresh = s .fresh; reach = s .reach; closed = s .closed }
 
   safe-body : (c r : Control) (a : Account) (σ : Store) (l : Label) (t m k : ℕ) → Safe c a σ → nextPlan P c a ≡ asks r (blocks l t m k)
       → a .next + 1 + k ≤ a .limit → Safe (bodyControl t r) (bodyAccount m k a) σ
   safe-body c r a σ l t m k s e le =
       record {
-        at-start = lands .0 .0;
-        handlers = tt;
         fresh = λ p i. s .fresh p (omega arith);
         reach = record { stack = tt; locals = in-plan .0 .locals };
         closed = s .closed;
       }
     where
-      lands : PlanLands N (asks r (blocks l t m k))
-      lands = subst (PlanLands N) e (plan-lands N P a (behind P c) (P .fetch (c .pc)) (sound (c .pc) (s .at-start)) (s .handlers))
-
       in-plan : InPlan (Twin σ σ) (asks r (blocks l t m k))
       in-plan = subst (InPlan (Twin σ σ)) e (plan-in (Twin σ σ) P a (s .closed .inputs) (behind P c) (safe-behind c a σ s) (P .fetch (c .pc)))
 

@@ -24,7 +24,7 @@ use Rattle.model.specs.declared.Slot.{Slot}
 use Rattle.model.specs.declared.Slot.the-variants.{Empty, Full}
 use Rattle.model.specs.declared.Frame.{Frame}
 use Rattle.model.proofs.Tests.{cond-two}
-use Rattle.model.proofs.Effects.{storeOf, yield-of}
+use Rattle.model.proofs.Effects.{accountOf, storeOf, yield-of}
 use Rattle.model.proofs.Kept.{LowSet, shell, Fresh, Kept, up, RunnerKept}
 use Rattle.model.proofs.Plans.{all-drop, Reach, reach-wider, points-wider, InRequest, InPlan, plan-in}
 use Rattle.model.proofs.LowEquivalence.{Twin, Shared, SharedContents, SharedSlot, LowEquivalent, LowOutcomes, LowNext, goes, stops, parts, Grows, shared-grows, grows-set, place-twin, grows-kept, equivalent-set, shared-visible}
@@ -102,8 +102,12 @@ module _ (P : Program) (Low : Label → Bool) (D : LowSet P Low) where
     -- any contents, under a label that the observer doesn't see: here the runs part
     yield-apart : (b : Account) (x y : Contents) → Low (b .label) ≡ false → LowNext P Low (yield c r b σ x) (yield c r b τ y)
     yield-apart b x y e =
-        parts (yield-of (λ d _. Low (d .label) ≡ false) c r b σ x e) (yield-of (λ d _. Low (d .label) ≡ false) c r b τ y e)
-        (yield-of (λ _ ρ. LowEquivalent P Low ρ (storeOf (yield c r b τ y))) c r b σ x (yield-of (λ _ ρ. LowEquivalent P Low σ ρ) c r b τ y s))
+        parts (hidden σ x) (hidden τ y)
+        (yield-of (λ _ ρ. LowEquivalent P Low ρ (storeOf (yield c r b τ y))) (λ _ _ _ g. g) c r b σ x
+        (yield-of (λ _ ρ. LowEquivalent P Low σ ρ) (λ _ _ _ g. g) c r b τ y s))
+      where
+        hidden : (ρ : Store) (z : Contents) → Low (accountOf (yield c r b ρ z) .label) ≡ false
+        hidden ρ z = yield-of (λ d _. Low (d .label) ≡ false) (λ _ _ _ g. g) c r b ρ z e
 
     open-alike : (h j : Kind) (l : Label) (x y : Contents) → SharedSlot σ τ (shown Low (holding h l x))
         → shown Low (holding h l x) ≡ shown Low (holding j l y)

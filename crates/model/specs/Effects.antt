@@ -31,12 +31,13 @@ pub data Next : Type 0 where
 abbrev pub cut : ℕ → List Value → List Value
 cut h s = drop (length s - h) s
 
--- "The newest frame is then removed, the stack cut to its height at TRY, code and number pushed, and the handler runs with
--- the label and clearance that stood at the throw. Without a frame the run ends with the fault."
+-- "The newest frame is then removed, the stack cut to its height at TRY, code and number pushed." T-03: "a caught fault gives
+-- back the clearance that stood at TRY. The label stays as at the throw." "Without a frame the run ends with the fault."
 unfoldable pub failTo : List Frame → ℕ → ℕ → Control → Account → Store → Next
 failTo [] code n c a σ = stop (Faulted code n) a σ
 failTo (f ∷ fs) code n c a σ =
-    go (record { pc = f .handler; stack = number n ∷ number code ∷ cut (f .height) (c .stack); locals = c .locals; frames = fs }) a σ
+    go (record { pc = f .handler; stack = number n ∷ number code ∷ cut (f .height) (c .stack); locals = c .locals; frames = fs })
+    (withClearance (f .clearance) a) σ
 
 abbrev pub fail : ℕ → ℕ → Control → Account → Store → Next
 fail code n c a σ = failTo (c .frames) code n c a σ

@@ -162,7 +162,7 @@ operate P a c Write = pop c (λ h r. pop r (λ d q. asReference h (λ p. asks q 
 operate P a c (Block t n k) = popLabel c (λ b r. asks r (blocks b t n k))
 operate P a c (Try h) =
     cond (ltb (length (c .frames)) 8)
-    (asks (withFrames (record { handler = h; height = length (c .stack) } ∷ c .frames) c) none)
+    (asks (withFrames (record { handler = h; height = length (c .stack); clearance = a .clearance } ∷ c .frames) c) none)
     (faults 29)
 operate P a c Done = dropFrame c (c .frames)
 operate P a c Throw = popNumber c (λ n r. asks r (throws n))

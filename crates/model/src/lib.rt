@@ -37,10 +37,11 @@ pub enum Slot {
     Full(Record),
 }
 
-// A try frame: where its handler starts, and how many values were on the stack at TRY.
+// A try frame: where its handler starts; how many values were on the stack at TRY, and the clearance that stood there.
 pub struct Frame {
     pub handler: usize,
     pub height: usize,
+    pub clearance: Label,
 }
 
 // The instructions, in the order of their opcodes 00 to 1D.

@@ -1,5 +1,5 @@
 -- A file with no refusal never meets the definition's totals: whatever state its run comes to, in itself or in a block, the
--- instruction that stands next is one of the code's, and the place that it asks for holds a record.
+-- instruction that stands next is one of the code's, and the place that it asks for holds a record. And the cap holds there.
 use mathlib.Core.Bool.{true}
 use mathlib.Core.List.{List, [], _∷_}
 use mathlib.Core.Path.{_≡_, refl, sym, _∙_}
@@ -17,16 +17,17 @@ use Rattle.model.specs.Running.{runs, programOf, startControl, startStore}
 use Rattle.model.proofs.Kept.{LowSet, Fresh, run-kept}
 use Rattle.model.proofs.LowEquivalence.{Twin, LowEquivalent}
 use Rattle.model.proofs.Start.{AlikeInputs, length-inputs, length-slots, numbers-point, start-fresh, start-equivalent}
-use Rattle.model.proofs.Reached.{Reached, Holds, nextPlan, anyLabel, Safe, reached-safe, safe-holds}
+use Rattle.model.proofs.Reached.{Reached, Holds, nextPlan, anyLabel, reached-in, Safe, reached-safe, safe-holds}
+use Rattle.model.proofs.Cap.{Capped, cap-holds, cap-at-end}
 use Rattle.script_file.specs.Sections.{header, recordBytes, codeBytes, labelAt}
 use Rattle.formulas.specs.Lists.{among}
 use Rattle.code_check.specs.Sweep.{starts, instrOk, codeOk}
-use Rattle.script_file.specs.Checks.{passes7, refusal}
+use Rattle.script_file.specs.Checks.{passes5, passes7, refusal}
 use Rattle.script_file.specs.Program.{fileInputs, fileProgram, fileAccount, fileRun}
 use Rattle.script_file.proofs.Answers.{accepted as passes, within-limits, in-place}
 use Rattle.view.specs.Reading.{fileView}
 use Rattle.view.proofs.LengthField.{length-field-places}
-use Rattle.noninterference.proofs.Demand3.{low-set}
+use Rattle.noninterference.proofs.Demand3.{low-set, preorder}
 use Rattle.noninterference.proofs.Starts.{start-ok, lands, start-zero}
 use Rattle.file_sections.specs.Sections.{inputsOf}
 
@@ -54,24 +55,19 @@ module _ (l n : ℕ) (code : List ℕ) (ls : ℕ → Label) (xs : List Input) (o
   Starts pc = among pc (starts code) ≡ true
 
   start-safe : (a : Account) (σ : Store) → Fresh a σ → LowEquivalent (programOf code ls xs) anyLabel σ σ
-      → Safe (programOf code ls xs) (every-label code ls xs) Starts (lands l n code ok) startControl a σ
+      → Safe (programOf code ls xs) (every-label code ls xs) startControl a σ
   start-safe a σ fresh closed =
-      record {
-        at-start = start-zero l n code ok some;
-        handlers = tt;
-        fresh = fresh;
-        reach = record { stack = tt; locals = numbers-point (Twin σ σ) 16 };
-        closed = closed;
-      }
+      record { fresh = fresh; reach = record { stack = tt; locals = numbers-point (Twin σ σ) 16 }; closed = closed }
 
   pub reached-on-code : (a₀ : Account) (σ₀ : Store) → Fresh a₀ σ₀ → LowEquivalent (programOf code ls xs) anyLabel σ₀ σ₀
       → (c : Control) (a : Account) (σ : Store) → Reached (programOf code ls xs) startControl a₀ σ₀ c a σ → OnCode l n code (programOf code ls xs) c σ
   reached-on-code a₀ σ₀ fresh closed c a σ h =
-      let s = reached-safe (programOf code ls xs) (every-label code ls xs) Starts (lands l n code ok) startControl a₀ σ₀ (start-safe a₀ σ₀ fresh closed) c a σ h in
+      let s = reached-safe (programOf code ls xs) (every-label code ls xs) startControl a₀ σ₀ (start-safe a₀ σ₀ fresh closed) c a σ h in
+      let at = reached-in (programOf code ls xs) Starts (lands l n code ok) startControl a₀ σ₀ (start-zero l n code ok some) refl c a σ h in
       record {
-        at-start = s .at-start;
-        checked = start-ok l n code ok (c .pc) (s .at-start);
-        record-there = safe-holds (programOf code ls xs) (every-label code ls xs) Starts (lands l n code ok) c a σ s;
+        at-start = at;
+        checked = start-ok l n code ok (c .pc) at;
+        record-there = safe-holds (programOf code ls xs) (every-label code ls xs) c a σ s;
       }
 
 alike-self : (xs : List Input) → AlikeInputs anyLabel xs xs
@@ -104,6 +100,22 @@ module _ (bs : List ℕ) (ok : refusal bs ≡ 0) where
   accepted =
       reached-on-code (header bs .labels .count) (header bs .records .count) (codeBytes bs) (labelAt bs) (fileInputs bs) (passes bs ok .code) code-there
       (fileAccount bs) start fresh (start-closed (fileProgram bs) (fileInputs bs) refl)
+
+  -- The cap holds of accepted files, label 1 being the starting clearance.
+  pub file-capped : (c : Control) (a : Account) (σ : Store)
+      → Reached (fileProgram bs) startControl (fileAccount bs) (startStore (inputSlots (fileInputs bs))) c a σ
+      → Capped (fileProgram bs) (labelAt bs 1) c a
+  unfolding passes5 fileProgram fileAccount
+  file-capped =
+      cap-holds (fileProgram bs) (preorder (codeBytes bs) (labelAt bs) (fileInputs bs)) startControl (fileAccount bs)
+      (startStore (inputSlots (fileInputs bs))) refl (passes bs ok .start)
+
+  pub file-ends-capped : (flows (fileRun bs .account .label) (fileRun bs .account .clearance) ≡ true)
+      × (flows (fileRun bs .account .clearance) (labelAt bs 1) ≡ true)
+  unfolding passes5 fileProgram fileAccount fileRun
+  file-ends-capped =
+      cap-at-end (fileProgram bs) (preorder (codeBytes bs) (labelAt bs) (fileInputs bs)) startControl (fileAccount bs)
+      (startStore (inputSlots (fileInputs bs))) refl (passes bs ok .start)
 
   -- the run of a file keeps the 256 places of the store
   store-places : length (fileRun bs .store) ≡ 256

@@ -17,6 +17,7 @@ use Rattle.model.specs.Inputs.{Input, inputSlots}
 use Rattle.model.specs.Running.{runs, programOf, startControl, startStore}
 use Rattle.model.proofs.Tests.{cond-two}
 use Rattle.model.proofs.Kept.{LowSet}
+use Rattle.model.proofs.Cap.{Preorder}
 use Rattle.model.proofs.LowEquivalence.{LowOutcomes}
 use Rattle.model.proofs.Start.{AlikeInputs, alike-handles, length-inputs, two-starts}
 use Rattle.script_file.specs.declared.Header.{Header}
@@ -43,9 +44,16 @@ module _ (code : List ℕ) (ls : ℕ → Label) (xs : List Input) where
         join-right = λ k l. T-true (flows l (join k l)) (labels .le-right k l);
       }
 
+  pub preorder : Preorder (programOf code ls xs)
+  preorder =
+      record {
+        reflexive = λ l. T-true (flows l l) (labels .le-refl l);
+        transitive = λ k l m e f. T-true (flows k m) (labels .le-trans k l m (T-eq (sym e) tt) (T-eq (sym f) tt));
+      }
+
   -- The labels that flow to a reading label are closed downward, under the order of labels.
   pub readable : (m : Label) → LowSet (programOf code ls xs) (λ l. flows l m)
-  readable m = low-set (λ l. flows l m) (λ k l e f. T-true (flows k m) (labels .le-trans k l m (T-eq (sym e) tt) (T-eq (sym f) tt)))
+  readable m = low-set (λ l. flows l m) (λ k l e f. preorder .transitive k l m e f)
 
 -- ── two files that none of 1 to 4, 6 and 8 stops ──
 
