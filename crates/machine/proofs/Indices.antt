@@ -9,12 +9,12 @@ use Rattle.machine.specs.declared.State.{State}
 use Rattle.machine.specs.State.{Ok}
 use Rattle.machine.proofs.Methods.{Room}
 
--- ── offsets: a value takes 24 bytes, a frame 16 ──
+-- ── offsets: a value takes 24 bytes, a frame 32 ──
 
 pub value-offset : (n : ℕ) → n < 32 → Fits w64 (n * 24)
 value-offset n h = omega (arith, h)
 
-pub frame-offset : (n : ℕ) → n < 8 → Fits w64 (n * 16)
+pub frame-offset : (n : ℕ) → n < 8 → Fits w64 (n * 32)
 frame-offset n h = omega (arith, h)
 
 -- ── the stack: where a value is pushed ──

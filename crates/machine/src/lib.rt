@@ -148,16 +148,7 @@ impl State {
         requires { ⌜ (self .depth < 8) × (self .next + 1 + k ≤ 256) ⌝ }
         ensures { λ r. ⌜ r ≡ bodyAccount n k (account self) ⌝ }
     {
-        let label = self.label;
-        let clearance = self.clearance;
-        Account {
-            label,
-            clearance,
-            steps: n,
-            next: self.next + 1,
-            limit: self.next + 1 + k,
-            depth: self.depth + 1,
-        }
+        values::inside(self.account(), n, k)
     }
 
     // Whether the run goes on.
@@ -176,12 +167,12 @@ impl State {
         ensures { λ r. ⌜ r ≡ handled f code number self ⌝ }
     {
         let newest = self.newest;
-        let kept = values::least(32 - self.top, f.height);
+        let top = values::cut(self.top, f.height);
         let clearance = f.clearance;
         self.newest = newest + 1;
         self.pc = f.handler;
         self.clearance = clearance;
-        self.top = 32 - kept;
+        self.top = top;
         let s = self.push(values::number(code));
         s.push(values::number(number))
     }

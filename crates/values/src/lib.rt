@@ -1,10 +1,12 @@
-// Values as the machine reads, makes and copies them.
+// Values as the machine reads, makes and copies them; and what it works out of small numbers and accounts.
 use labels::Label;
+use model::Account;
 use model::Datum;
 use model::Kind;
 use model::Value;
 ghost use mathlib.Core.Path.{_≡_};
-ghost use Prim.Native.Nat.{min};
+ghost use Prim.Native.Nat.{_+_, _-_, _≤_, _<_, min};
+ghost use Rattle.model.specs.Effects.{bodyAccount};
 ghost use Rattle.model.specs.State.{number};
 ghost use Rattle.operands.specs.Tasks.{labelOf};
 ghost use Rattle.values.specs.Present.{presentOf};
@@ -24,6 +26,32 @@ pub fn least(a: usize, b: usize) -> usize
         return a;
     }
     b
+}
+
+// Where the top of a stack of 32 lies, which grows downwards, once it is cut to a height; left if it is lower.
+pub fn cut(top: usize, height: usize) -> usize
+    requires { ⌜ top ≤ 32 ⌝ }
+    ensures { λ r. ⌜ r ≡ 32 - min (32 - top) height ⌝ }
+{
+    let kept = least(32 - top, height);
+    32 - kept
+}
+
+// The account that a block's body starts with: n steps, k places behind its outcome's.
+pub fn inside(a: Account, n: usize, k: usize) -> Account
+    requires { ⌜ (a .depth < 8) × (a .next + 1 + k ≤ 256) ⌝ }
+    ensures { λ r. ⌜ r ≡ bodyAccount n k a ⌝ }
+{
+    let label = a.label;
+    let clearance = a.clearance;
+    Account {
+        label,
+        clearance,
+        steps: n,
+        next: a.next + 1,
+        limit: a.next + 1 + k,
+        depth: a.depth + 1,
+    }
 }
 
 // The same datum, field by field: one that was stored so and is loaded whole waits for its stores.
