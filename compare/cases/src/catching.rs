@@ -1,4 +1,5 @@
-//! What a handler is given, and what stands when it runs.
+//! What a handler is given, and what stands when it runs. More of its clearance is in
+//! [`crate::clearances`].
 
 use crate::{case, label, record, tuned, Case, Expected};
 use reference::opcode::*;
@@ -105,10 +106,10 @@ fn labels() -> Vec<Case> {
             |code| same_label(code, label::PLAYER, CUR),
         ),
         tried(
-            "the handler runs with the clearance at the throw",
+            "the handler runs with the clearance at TRY",
             1,
             |code| _ = code.lab(label::PLAYER).ops(&[LOWER, THROW]),
-            |code| same_label(code, label::PLAYER, CLR),
+            |code| same_label(code, label::CLEARANCE, CLR),
         ),
     ]
 }

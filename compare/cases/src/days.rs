@@ -1,6 +1,7 @@
 //! Hand-worked days, each with the refusal or the endings that the papers demand.
 
 pub mod admission;
+pub mod clearances;
 pub mod code;
 pub mod halves;
 pub mod handles;
@@ -46,6 +47,7 @@ pub fn all() -> Vec<DayCase> {
         store::cases(),
         handles::cases(),
         halves::cases(),
+        clearances::cases(),
         views::cases(),
     ]
     .concat()

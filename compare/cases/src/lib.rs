@@ -1,11 +1,14 @@
 //! Hand-worked files, each with the ending or refusal that the paper demands.
 
 pub mod blocks;
+pub mod bodies;
 pub mod bounds;
 pub mod catching;
+pub mod clearances;
 pub mod days;
 pub mod faults;
 pub mod halves;
+pub mod kept;
 pub mod order;
 pub mod paper;
 pub mod refusals;
@@ -56,6 +59,9 @@ pub fn all() -> Vec<Case> {
         halves::cases(),
         order::cases(),
         catching::cases(),
+        clearances::cases(),
+        kept::cases(),
+        bodies::cases(),
         blocks::cases(),
         bounds::cases(),
     ]

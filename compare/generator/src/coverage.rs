@@ -1,13 +1,14 @@
 //! What a set of files reaches: instructions, the faults they throw, the faults
 //! that OPEN throws out of outcomes, what happens inside blocks, refusals.
 
+use crate::clearances::{self, Back, Watch};
 use crate::halves::{self, Half};
 use reference::label::Label;
 use reference::limits::{header, view, MAX_VIEW, NESTED_BLOCKS};
 use reference::opcode::*;
 use reference::read_by;
-use reference::rules::{Raiser, Rules};
-use reference::run::Run;
+use reference::rules::{Paper, Raiser, Rules};
+use reference::run::{Frame, Run};
 use reference::value::{Ending, Fault, Value};
 use std::cell::{Cell, RefCell};
 use std::collections::BTreeMap;
@@ -20,6 +21,7 @@ pub enum Point {
     Obeyed(Opcode),
     Threw(Opcode, FaultCode),
     Half(Half),
+    Back(Back),
     /// OPEN threw a fault that a body had ended with.
     Unsealed(FaultCode),
     /// OPEN or READ gave a handle.
@@ -69,6 +71,7 @@ pub fn all_points() -> Vec<Point> {
         }
     }
     points.extend(halves::of_any().map(Point::Half));
+    points.extend(clearances::of_files().into_iter().map(Point::Back));
     points.extend((20..=32).map(Point::Unsealed));
     points.extend((1..=NESTED_BLOCKS).map(Point::Entered));
     for of_depth in [Point::Caught, Point::Spent] {
@@ -88,6 +91,7 @@ pub struct Coverage {
     counts: RefCell<BTreeMap<Point, u64>>,
     /// Set between the raise of an OPEN and the sealed fault it throws.
     unsealing: Cell<bool>,
+    watch: Watch,
 }
 
 impl Coverage {
@@ -114,6 +118,10 @@ impl Coverage {
         *self.counts.borrow_mut().entry(point).or_default() += 1;
     }
 
+    fn reach_back(&self, points: impl IntoIterator<Item = Back>) {
+        points.into_iter().for_each(|back| self.reach(Point::Back(back)));
+    }
+
     pub fn count(&self, point: Point) -> u64 {
         self.counts.borrow().get(&point).copied().unwrap_or(0)
     }
@@ -129,16 +137,45 @@ impl Rules for Coverage {
         raised
     }
 
+    fn within_clearance(&self, opcode: u8, run: &Run, label: Label) -> Result<(), Fault> {
+        let answer = Paper.within_clearance(opcode, run, label);
+        answer.inspect(|()| self.reach_back(self.watch.allowed(opcode, run, label)))
+    }
+
+    fn may_lower(&self, run: &Run, new: Label) -> Result<(), Fault> {
+        let answer = Paper.may_lower(run, new);
+        answer.inspect(|()| self.reach_back(self.watch.allowed(LOWER, run, new)))
+    }
+
+    fn given_back(&self, run: &Run, frame: Frame, fault: Fault) -> Label {
+        self.reach_back(self.watch.caught(run, frame, fault));
+        Paper.given_back(run, frame, fault)
+    }
+
+    fn starts(&self, run: &Run) {
+        self.watch.starts(run);
+    }
+
     fn entering(&self, _outer: &mut Run, body: &mut Run) {
+        self.watch.enters(body);
         self.reach(Point::Entered(body.depth));
     }
 
-    fn leaving(&self, _outer: &mut Run, body: &Run, ending: Ending) {
+    fn leaving(&self, outer: &mut Run, body: &Run, ending: Ending) {
         match ending {
             Ending::Spent => self.reach(Point::Spent(body.depth)),
             Ending::Result(Value::Sealed(_) | Value::Reference(_)) => self.reach(Point::HandedOut),
+            Ending::Fault(_) => self.reach_back(self.watch.uncaught_below(outer)),
             _ => (),
         }
+    }
+
+    fn uncaught(&self, run: &mut Run) {
+        self.reach_back(self.watch.uncaught(run));
+    }
+
+    fn dropped(&self, run: &mut Run, frame: Frame) {
+        self.reach_back(self.watch.dropped(run, frame));
     }
 
     fn caught(&self, run: &mut Run, _fault: Fault) {
@@ -184,6 +221,9 @@ impl fmt::Display for Coverage {
         }
         for half in halves::of_any() {
             writeln!(f, "{half:?}: {}", self.count(Point::Half(half)))?;
+        }
+        for back in clearances::of_files() {
+            writeln!(f, "{back:?}: {}", self.count(Point::Back(back)))?;
         }
         let mut row = |name: &str, points: &mut dyn Iterator<Item = (usize, Point)>| {
             let counts: Vec<String> =

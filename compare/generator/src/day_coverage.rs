@@ -1,6 +1,7 @@
 //! What a set of days reaches: refusals, skipped jobs, what becomes of handles
 //! whose records are gone, and what failed flow tests tell.
 
+use crate::clearances::{self, Back, Watch};
 use crate::halves::{self, Half};
 use reference::day::Day;
 use reference::day_rules::DayRules;
@@ -11,7 +12,7 @@ use reference::opcode::*;
 use reference::parts::Job;
 use reference::read_day_by;
 use reference::rules::{Paper, Raiser, Rules};
-use reference::run::Run;
+use reference::run::{Frame, Run};
 use reference::store::Store;
 use reference::value::{Content, Ending, Fault, Record, Value};
 use std::cell::{Cell, RefCell};
@@ -49,6 +50,7 @@ pub enum Point {
     Read,
     ReadHandle,
     Half(Half),
+    Back(Back),
 }
 
 type Opcode = u8;
@@ -63,6 +65,7 @@ pub fn all_points() -> Vec<Point> {
     points.extend((1..=4).chain(6..=10).map(Refused));
     points.extend((1..=3).map(Ended));
     points.extend(halves::of_any().map(Point::Half));
+    points.extend(clearances::of_days().into_iter().map(Point::Back));
     points
 }
 
@@ -77,6 +80,7 @@ pub struct DayCoverage {
     later: Cell<bool>,
     /// Set between the raise of an OPEN or READ and the fault that it found.
     finding: Cell<bool>,
+    watch: Watch,
 }
 
 impl DayCoverage {
@@ -128,6 +132,10 @@ impl DayCoverage {
         *self.counts.borrow_mut().entry(point).or_default() += 1;
     }
 
+    fn reach_back(&self, points: impl IntoIterator<Item = Back>) {
+        points.into_iter().for_each(|back| self.reach(Point::Back(back)));
+    }
+
     pub fn count(&self, point: Point) -> u64 {
         self.counts.borrow().get(&point).copied().unwrap_or(0)
     }
@@ -163,6 +171,38 @@ impl Rules for DayCoverage {
         }
         self.finding.set(matches!(raiser, Raiser::OpenFault | Raiser::ReadFault));
         raised
+    }
+
+    fn within_clearance(&self, opcode: u8, run: &Run, label: Label) -> Result<(), Fault> {
+        let answer = Paper.within_clearance(opcode, run, label);
+        answer.inspect(|()| self.reach_back(self.watch.allowed(opcode, run, label)))
+    }
+
+    fn given_back(&self, run: &Run, frame: Frame, fault: Fault) -> Label {
+        self.reach_back(self.watch.caught(run, frame, fault));
+        Paper.given_back(run, frame, fault)
+    }
+
+    fn starts(&self, run: &Run) {
+        self.watch.starts(run);
+    }
+
+    fn entering(&self, _outer: &mut Run, body: &mut Run) {
+        self.watch.enters(body);
+    }
+
+    fn leaving(&self, outer: &mut Run, _body: &Run, ending: Ending) {
+        if let Ending::Fault(_) = ending {
+            self.reach_back(self.watch.uncaught_below(outer));
+        }
+    }
+
+    fn uncaught(&self, run: &mut Run) {
+        self.reach_back(self.watch.uncaught(run));
+    }
+
+    fn dropped(&self, run: &mut Run, frame: Frame) {
+        self.reach_back(self.watch.dropped(run, frame));
     }
 
     fn unopened(&self, opcode: u8, content: Content, fault: Fault) -> Fault {

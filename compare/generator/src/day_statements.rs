@@ -2,7 +2,7 @@
 //! and look at what was left there.
 
 use crate::random::Random;
-use crate::writer::{Scope, Writer, NUMBERS, REFERENCES, SEALED};
+use crate::writer::{Manner, Scope, Writer, NUMBERS, REFERENCES, SEALED};
 use reference::opcode::*;
 use reference::script::{Clauses, Input};
 
@@ -54,7 +54,7 @@ impl Writer<'_> {
     }
 
     fn day_statement(&mut self, scope: Scope) {
-        match self.random.below(13) {
+        match self.random.below(15) {
             0..=2 => self.leave_guarded(),
             3..=5 => self.take(),
             6 | 7 => self.take_in_block(),
@@ -64,18 +64,10 @@ impl Writer<'_> {
             }
             9 => self.leave_by_number(),
             10 => self.overstep(),
+            11 => self.shut_out(scope),
+            12 => self.shut_out_in_block(),
             _ => self.probe(scope),
         }
-    }
-
-    /// Writes `inner` so that its faults do not end the run.
-    fn guard(&mut self, inner: impl FnOnce(&mut Self)) {
-        let (handler, after) = (self.code.target(), self.code.target());
-        self.code.try_to(handler);
-        inner(self);
-        self.code.op(DONE).jump(after).place(handler);
-        self.take_fault();
-        self.code.place(after);
     }
 
     fn leave_guarded(&mut self) {
@@ -105,8 +97,8 @@ impl Writer<'_> {
         }
         let local = self.random.below(16) as u8;
         match self.random.below(10) {
-            0..=3 => _ = self.code.get(local).ops(&[CUR, SEAL]),
-            4..=6 => _ = self.code.get(local).ops(&[CUR, NEW]),
+            0..=2 => _ = self.code.get(local).ops(&[CUR, SEAL]),
+            3..=6 => _ = self.code.get(local).ops(&[CUR, NEW]),
             7 => {
                 let kind = self.random.below(2) as u8;
                 self.push_handle(kind);
@@ -120,7 +112,11 @@ impl Writer<'_> {
     /// Looks at what is in an input reference, and further if it is a handle.
     fn take(&mut self) {
         let Some(reference) = self.meeting() else { return };
+        let label = self.records[usize::from(reference)].label;
         let look = |writer: &mut Self| {
+            if writer.random.chance(20) {
+                writer.lower_for(label);
+            }
             writer.code.input(reference);
             if writer.random.chance(10) {
                 // At the reference, and not at what it holds.
@@ -189,6 +185,21 @@ impl Writer<'_> {
             writer.code.place(body).input(record as u8).op(opens).ifz(zero);
             writer.code.push(2).ops(&[CUR, opcode, POP]).place(zero).push(1).end();
             writer.code.place(after);
+        });
+    }
+
+    /// A block whose body lowers its clearance; its outcome is opened, or not.
+    fn shut_out_in_block(&mut self) {
+        let scope = Scope { steps: 80, depth: 1 };
+        let body = self.call(scope, Manner::Lowering);
+        let outcome = self.random.pick(&SEALED);
+        self.guard(|writer| {
+            writer.push_target();
+            writer.code.block(body, scope.steps, 3).set(outcome);
+            if writer.random.chance(50) {
+                writer.code.get(outcome).op(OPEN);
+                writer.set_number();
+            }
         });
     }
 

@@ -6,6 +6,8 @@
 //! and then doing something that others might notice.
 
 pub mod alike;
+pub mod cap;
+pub mod clearances;
 pub mod coverage;
 pub mod day_alike;
 pub mod day_coverage;
@@ -15,6 +17,7 @@ pub mod days;
 pub mod exhaust;
 pub mod halves;
 pub mod invalid;
+mod lowering;
 pub mod parts;
 mod probes;
 pub mod random;

@@ -15,6 +15,27 @@ impl Writer<'_> {
             return;
         }
         let record = self.random.below(self.records.len());
+        self.telling_block(scope, record);
+        self.listen();
+    }
+
+    /// The same under a clearance that is lowered as far as the body allows; what is
+    /// looked at is the clearance that stands then, or that of a frame.
+    pub fn lowered_probe(&mut self, scope: Scope) {
+        if self.records.is_empty() {
+            return;
+        }
+        let record = self.random.below(self.records.len());
+        self.lower_for(self.records[record].label);
+        self.telling_block(scope, record);
+        if self.random.chance(50) {
+            self.code.get(0).op(THROW);
+        } else {
+            self.code.ops(&[CLR, CUR, NEW, POP]);
+        }
+    }
+
+    fn telling_block(&mut self, scope: Scope, record: usize) {
         let inner = Scope { steps: 100.min(scope.steps / 2), depth: scope.depth + 1 };
         let body = self.call(inner, Manner::Telling(record as u8));
         if self.random.chance(60) {
@@ -24,7 +45,6 @@ impl Writer<'_> {
             self.push_target();
         }
         self.code.block(body, inner.steps, 3).set(OUTCOME);
-        self.listen();
     }
 
     /// Looks at an outcome without opening it, or with the fault caught.
@@ -64,7 +84,7 @@ impl Writer<'_> {
 
     /// One thing that someone else might notice.
     fn act(&mut self) {
-        match self.random.below(13) {
+        match self.random.below(15) {
             0 => {
                 let label = self.any_label();
                 self.code.lab(label).op(RAISE);
@@ -85,11 +105,7 @@ impl Writer<'_> {
                 self.push_handle(1);
                 self.code.op(WRITE);
             }
-            7 => {
-                let kind = self.random.below(2) as u8;
-                self.push_handle(kind);
-                self.code.op(if kind == 0 { OPEN } else { READ }).op(POP);
-            }
+            7 => self.open_some(),
             8 => {
                 let local = self.random.pick(&NUMBERS);
                 self.code.push(2).set(local);
@@ -100,7 +116,14 @@ impl Writer<'_> {
                 let again = self.code.here();
                 self.code.op(CUR).jump(again);
             }
+            12 | 13 => self.lower_and_throw(),
             _ => _ = self.code.get(0).end(),
         }
+    }
+
+    fn open_some(&mut self) {
+        let kind = self.random.below(2) as u8;
+        self.push_handle(kind);
+        self.code.op(if kind == 0 { OPEN } else { READ }).op(POP);
     }
 }

@@ -9,7 +9,8 @@ use reference::opcode::*;
 impl Writer<'_> {
     pub fn statement(&mut self, scope: Scope) {
         match self.random.below(100) {
-            0..=5 => self.arithmetic(),
+            0..=2 => self.arithmetic(),
+            3..=5 => self.shut_out(scope),
             6..=9 => self.overstep(),
             10..=12 => self.label_arithmetic(),
             13..=20 => self.open(),
@@ -193,6 +194,9 @@ impl Writer<'_> {
     fn try_some(&mut self, scope: Scope) {
         let (handler, after) = (self.code.target(), self.code.target());
         self.code.try_to(handler);
+        if self.random.chance(20) {
+            self.lower();
+        }
         let length = self.random.within(1, 3);
         self.statements(scope, length);
         if self.random.chance(30) {
@@ -242,15 +246,16 @@ impl Writer<'_> {
     }
 
     /// Blocks inside one another, to the limit and one past it. Some catch a
-    /// fault first; the innermost opens a record and branches on it.
-    fn nest(&mut self, scope: Scope) {
+    /// fault first, under a lowered clearance; the innermost opens a record and
+    /// branches on it.
+    pub fn nest(&mut self, scope: Scope) {
         let levels = self.random.within(2, 9);
         let after = self.code.target();
         let opens = self.random.chance(50);
         for level in 0..levels {
             let body = self.code.target();
             let rest = (levels - level) as u16;
-            self.code.op(CUR).block(body, 12 * rest, (3 * rest) as u8);
+            self.code.op(CUR).block(body, 14 * rest, (3 * rest) as u8);
             if opens {
                 self.code.op(OPEN);
             }
@@ -263,10 +268,10 @@ impl Writer<'_> {
             self.code.place(body);
             if self.random.chance(20) {
                 let handler = self.code.target();
-                self.code.try_to(handler).op(POP).place(handler).ops(&[POP, POP]);
+                self.code.try_to(handler).ops(&[CUR, LOWER, POP]).place(handler).ops(&[POP, POP]);
             }
         }
-        self.open_and_branch(Scope { steps: 12, depth: scope.depth + levels });
+        self.open_and_branch(Scope { steps: 14, depth: scope.depth + levels });
         self.code.push(1).end().place(after);
     }
 }

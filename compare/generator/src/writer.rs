@@ -15,6 +15,8 @@ pub const REFERENCES: [u8; 3] = [13, 14, 15];
 
 /// What is kept free for the longest statement and all closings.
 const CLOSINGS: usize = 1500;
+/// How much further on a run may still start by lowering its clearance.
+const STARTS: usize = 500;
 
 pub struct Writer<'a> {
     pub random: &'a mut Random,
@@ -51,6 +53,8 @@ pub enum Manner {
     /// By leaving something behind, then opening the input record with this
     /// index and, as its number is, doing one thing that might show outside.
     Telling(u8),
+    /// By lowering the clearance and, mostly, faulting.
+    Lowering,
 }
 
 pub fn code(random: &mut Random, labels: &[Clauses], records: &[Input], steps: u16) -> Vec<u8> {
@@ -62,6 +66,9 @@ pub fn code(random: &mut Random, labels: &[Clauses], records: &[Input], steps: u
     writer.statements(scope, before);
     if writer.random.chance(40) {
         writer.probe(scope);
+    }
+    if writer.random.chance(30) {
+        writer.shut_out(scope);
     }
     let manner = writer.any_manner();
     writer.start(scope, manner);
@@ -125,8 +132,9 @@ impl<'a> Writer<'a> {
     }
 
     pub fn any_manner(&mut self) -> Manner {
-        match self.random.below(4) {
+        match self.random.below(5) {
             0 => Manner::Curious,
+            4 => Manner::Lowering,
             1 if !self.records.is_empty() => Manner::Telling(self.random.below(self.records.len()) as u8),
             _ => Manner::Plain,
         }
@@ -137,6 +145,8 @@ impl<'a> Writer<'a> {
             Manner::Plain => (),
             Manner::Curious => self.open_and_branch(scope),
             Manner::Telling(record) => self.tell(record),
+            Manner::Lowering if self.code.len() > self.last_start + STARTS => (),
+            Manner::Lowering => self.shut_out(scope),
         }
     }
 
@@ -147,18 +157,18 @@ impl<'a> Writer<'a> {
             }
             self.statements -= 1;
             if self.random.chance(35) {
-                self.guarded(scope);
+                self.guard(|writer| writer.statement(scope));
             } else {
                 self.statement(scope);
             }
         }
     }
 
-    /// A statement whose faults do not end the run.
-    fn guarded(&mut self, scope: Scope) {
+    /// Writes `inner` so that its faults do not end the run.
+    pub fn guard(&mut self, inner: impl FnOnce(&mut Self)) {
         let (handler, after) = (self.code.target(), self.code.target());
         self.code.try_to(handler);
-        self.statement(scope);
+        inner(self);
         self.code.op(DONE).jump(after).place(handler);
         self.take_fault();
         self.code.place(after);

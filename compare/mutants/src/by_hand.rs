@@ -13,7 +13,7 @@ use reference::script::{Clauses, Code, Script};
 pub type Told = (&'static [Mutant], Pair);
 
 pub fn pairs() -> Vec<Told> {
-    [by_outcome(), by_cost(), by_traces(), by_handlers(), by_views()].concat()
+    [by_outcome(), by_cost(), by_traces(), by_handlers(), by_clearances(), by_views()].concat()
 }
 
 fn pair(mutants: &'static [Mutant], write: impl FnOnce(&mut Code)) -> Vec<Told> {
@@ -163,6 +163,7 @@ fn by_traces() -> Vec<Told> {
 fn by_handlers() -> Vec<Told> {
     use Mutant::*;
     [
+        // TRY h; INPUT 0; OPEN; THROW; h: END.
         pair(&[TryLabel], |code| {
             let handler = code.target();
             code.try_to(handler).input(SEALED_PLAYER).ops(&[OPEN, THROW]);
@@ -175,6 +176,53 @@ fn by_handlers() -> Vec<Told> {
                 code.place(handler).end();
             };
             block(code, PLAYER, after, throw);
+        }),
+    ]
+    .concat()
+}
+
+fn lower(code: &mut Code) {
+    code.lab(PLAYER).op(LOWER);
+}
+
+/// A frame, a lowered clearance, and a block; then `after` and the frame's handler, which
+/// looks at the clearance. The body does `act` if the hidden number is not 0.
+fn framed(mutants: &'static [Mutant], after: fn(&mut Code), act: fn(&mut Code)) -> Vec<Told> {
+    pair(mutants, |code| {
+        let handler = code.target();
+        code.try_to(handler);
+        lower(code);
+        let after = |code: &mut Code| {
+            after(code);
+            code.place(handler).ops(&[CLR, END]);
+        };
+        block(code, PUBLIC, after, act);
+    })
+}
+
+/// Whether a clearance is given back, and which.
+fn by_clearances() -> Vec<Told> {
+    use Mutant::*;
+    [
+        framed(&[UncaughtBody, FaultCrosses], |code| _ = code.ops(&[CLR, END]), throw),
+        framed(&[LastTryOfAll], throw, |code| {
+            let handler = code.target();
+            code.try_to(handler).op(DONE).place(handler);
+        }),
+        // In a body the clearance is given back or stays lowered, as the number is.
+        pair(&[ClearanceKept], |code| {
+            let (body, handler) = (code.target(), code.target());
+            code.lab(PUBLIC).block(body, 20, 0).ops(&[POP, CLR, END]);
+            code.place(body).input(SEALED_PLAYER).op(OPEN).try_to(handler);
+            lower(code);
+            code.ifz(handler).push(8).op(THROW).place(handler).push(1).end();
+        }),
+        // The same in the outermost run, which is hidden by then.
+        pair(&[ClearanceShown, TryLabel], |code| {
+            let handler = code.target();
+            code.try_to(handler).input(SEALED_PLAYER).op(OPEN);
+            lower(code);
+            code.ifz(handler).push(8).op(THROW).place(handler).push(1).end();
         }),
     ]
     .concat()

@@ -3,7 +3,7 @@
 //! that reader.
 
 use crate::day_list::DayMutant;
-use cases::days::{add, day, five};
+use cases::days::{add, day, five, of};
 use cases::label::{CLEARANCE, PLAYER, PUBLIC};
 use cases::record::*;
 use generator::alike::Pair;
@@ -15,7 +15,7 @@ use reference::script::Code;
 pub type Told = (&'static [DayMutant], Pair);
 
 pub fn pairs() -> Vec<Told> {
-    [by_admission(), by_starts(), by_handles(), by_contents()].concat()
+    [by_admission(), by_starts(), by_handlers(), by_handles(), by_contents()].concat()
 }
 
 /// The day with a hidden number of 0 in `record`, too.
@@ -89,6 +89,16 @@ fn by_starts() -> Vec<Told> {
         hiding(SEALED_PLAYER, PUBLIC, &[FaultUndoes], undone),
     ]
     .concat()
+}
+
+/// What handlers learn.
+fn by_handlers() -> Vec<Told> {
+    let open_and_throw = |code: &mut Code| {
+        let handler = code.target();
+        code.try_to(handler).input(SEALED_PLAYER).ops(&[OPEN, THROW]);
+        code.place(handler).end();
+    };
+    hiding(SEALED_PLAYER, PUBLIC, &[DayMutant::TryLabel], of(&[open_and_throw, five]))
 }
 
 /// The first job leaves a handle to its second new place in `reference`. The

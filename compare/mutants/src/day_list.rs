@@ -38,6 +38,12 @@ mutants! {
     TargetsFromSection Wrong "targets count from the code section's first byte",
     CodeChecked Wrong "check 7 is on the whole code as well",
 
+    // Handlers.
+    TryLabel Leak "a handler runs with the label that stood at TRY",
+    ThrowClearance Wrong "a handler runs with the clearance that stood at the throw",
+    FirstJobClearance Wrong "the clearance that the first job to run started with is given back",
+    GoneKeeps Wrong "33 does not give the clearance back",
+
     // Contents that are faults.
     ReadFaultUnraised Leak "READ of 33 does not raise",
     UnreadFaultTells Leak "READ of 33 above the clearance throws it",

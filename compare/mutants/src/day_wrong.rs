@@ -1,6 +1,7 @@
 //! The mutants of days as rules.
 
 use crate::day_list::DayMutant;
+use crate::handlers::Notes;
 use reference::day_rules::DayRules;
 use reference::label::Label;
 use reference::limits::{view, LOCALS};
@@ -8,7 +9,7 @@ use reference::machine::Finished;
 use reference::opcode::*;
 use reference::parts::{short, Job};
 use reference::rules::{Paper, Raiser, Rules};
-use reference::run::Run;
+use reference::run::{Frame, Run};
 use reference::store::Store;
 use reference::value::{Content, Ending, Fault, Record, Value};
 use std::cell::Cell;
@@ -18,11 +19,19 @@ pub struct WrongDay {
     mutant: DayMutant,
     /// The outermost run's locals, for the mutant that keeps them.
     locals: Cell<[Value; LOCALS]>,
+    /// The clearance that the first job to run started with.
+    first_clearance: Cell<Label>,
+    notes: Notes,
 }
 
 impl WrongDay {
     pub fn new(mutant: DayMutant) -> WrongDay {
-        WrongDay { mutant, locals: Cell::new([Value::ZERO; LOCALS]) }
+        WrongDay {
+            mutant,
+            locals: Cell::new([Value::ZERO; LOCALS]),
+            first_clearance: Cell::new(Label::PUBLIC),
+            notes: Notes::default(),
+        }
     }
 
     fn is(&self, mutant: DayMutant) -> bool {
@@ -101,7 +110,25 @@ impl Rules for WrongDay {
         }
     }
 
-    fn obeyed(&self, run: &mut Run, _opcode: u8, _fault: Option<Fault>) {
+    fn given_back(&self, run: &Run, frame: Frame, fault: Fault) -> Label {
+        match self.mutant {
+            DayMutant::ThrowClearance => run.clearance,
+            DayMutant::GoneKeeps if fault == Fault::VANISHED => run.clearance,
+            DayMutant::FirstJobClearance => self.first_clearance.get(),
+            _ => frame.clearance,
+        }
+    }
+
+    fn caught(&self, run: &mut Run, _fault: Fault) {
+        if self.is(DayMutant::TryLabel) {
+            run.label = self.notes.label(run);
+        }
+    }
+
+    fn obeyed(&self, run: &mut Run, opcode: u8, fault: Option<Fault>) {
+        if (opcode, fault) == (TRY, None) {
+            self.notes.tried(run);
+        }
         if run.depth == 0 {
             self.locals.set(run.locals);
         }
@@ -192,7 +219,7 @@ impl DayRules for WrongDay {
     }
 
     fn starting(&self, run: &mut Run, last: Option<&Finished>) {
-        let Some(last) = last else { return };
+        let Some(last) = last else { return self.first_clearance.set(run.clearance) };
         match self.mutant {
             DayMutant::PlacesKept => run.places.next = usize::from(last.next_place).min(run.places.end),
             DayMutant::LabelKept => run.label = last.label,

@@ -9,6 +9,7 @@ pub mod day_list;
 pub mod day_loader;
 pub mod day_search;
 pub mod day_wrong;
+pub mod handlers;
 pub mod list;
 pub mod loader;
 pub mod search;

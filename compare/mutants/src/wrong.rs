@@ -1,27 +1,26 @@
 //! The mutants as rules.
 
+use crate::handlers::Notes;
 use crate::list::Mutant;
 use reference::day_rules::DayRules;
 use reference::label::{Label, INTEGRITY, SECRECY};
 use reference::limits::{LOCALS, NESTED_BLOCKS};
 use reference::opcode::*;
 use reference::rules::{unless_flows, Field, Paper, Raiser, Rules};
-use reference::run::Run;
+use reference::run::{Frame, Run};
 use reference::store::Store;
 use reference::value::{Content, Ending, Fault, Value};
-use std::cell::RefCell;
 
 /// The paper's rules but for one.
 pub struct Wrong {
     mutant: Mutant,
-    /// Label and clearance at each TRY, by depth of block and count of frames,
-    /// for the mutants that go back to them.
-    tries: RefCell<[[(Label, Label); 8]; 10]>,
+    /// For the mutants that go back to what stood before.
+    notes: Notes,
 }
 
 impl Wrong {
     pub fn new(mutant: Mutant) -> Wrong {
-        Wrong { mutant, tries: RefCell::new([[(Label::PUBLIC, Label::PUBLIC); 8]; 10]) }
+        Wrong { mutant, notes: Notes::default() }
     }
 
     fn is(&self, mutant: Mutant) -> bool {
@@ -271,7 +270,17 @@ impl Rules for Wrong {
         field != shown
     }
 
+    fn given_back(&self, run: &Run, frame: Frame, fault: Fault) -> Label {
+        self.notes.removed(run, frame);
+        self.notes.given_back(self.mutant, run, frame, fault)
+    }
+
+    fn starts(&self, run: &Run) {
+        self.notes.starts(run);
+    }
+
     fn entering(&self, outer: &mut Run, body: &mut Run) {
+        self.notes.starts(body);
         match self.mutant {
             Mutant::OuterStepsTaken => body.steps_left += outer.steps_left,
             Mutant::OuterPlacesTaken => body.places.end = outer.places.end,
@@ -296,16 +305,17 @@ impl Rules for Wrong {
             Mutant::SpentEndsOuter if ending == Ending::Spent => outer.steps_left = 0,
             Mutant::LabelKept => outer.label = body.label,
             Mutant::ClearanceKept => outer.clearance = body.clearance,
+            Mutant::UncaughtBody if matches!(ending, Ending::Fault(_)) => {
+                outer.clearance = outer.frames.open().last().map_or(outer.clearance, |frame| frame.clearance);
+            }
             Mutant::LocalsShared => outer.locals = body.locals,
             _ => (),
         }
     }
 
     fn caught(&self, run: &mut Run, fault: Fault) {
-        let (label, clearance) = self.tries.borrow()[run.depth][run.frames.count()];
         match self.mutant {
-            Mutant::TryLabel => run.label = label,
-            Mutant::TryClearance => run.clearance = clearance,
+            Mutant::TryLabel => run.label = self.notes.label(run),
             Mutant::CodeOnTop => {
                 run.stack.drop(2);
                 run.stack.push(Value::Number(fault.number));
@@ -316,11 +326,22 @@ impl Rules for Wrong {
         }
     }
 
+    fn uncaught(&self, run: &mut Run) {
+        run.clearance = self.notes.uncaught(self.mutant, run);
+    }
+
+    fn dropped(&self, run: &mut Run, frame: Frame) {
+        self.notes.removed(run, frame);
+        if self.is(Mutant::DoneClearance) {
+            run.clearance = frame.clearance;
+        }
+    }
+
     fn obeyed(&self, run: &mut Run, opcode: u8, fault: Option<Fault>) {
+        if (opcode, fault) == (TRY, None) {
+            self.notes.tried(run);
+        }
         match (self.mutant, fault) {
-            (Mutant::TryLabel | Mutant::TryClearance, None) if opcode == TRY => {
-                self.tries.borrow_mut()[run.depth][run.frames.count() - 1] = (run.label, run.clearance);
-            }
             (Mutant::LabofRaises, None) if opcode == LABOF => {
                 if let Value::Label(label) = run.stack.operand(0) {
                     run.label = run.label.join(label);

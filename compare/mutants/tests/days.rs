@@ -46,12 +46,15 @@ fn hand_worked_days_find_leaks_too() {
     }
 }
 
-/// Jobs run on the plain file's machine; which half failed is seen in days as well.
+/// Jobs run on the plain file's machine; which half failed, and what a caught fault gives
+/// back, is seen in days as well.
 #[test]
-fn hand_worked_days_find_every_wrong_half() {
+fn hand_worked_days_find_every_wrong_half_and_clearance() {
     let cases = days::all();
     let at = |mutant| MUTANTS.iter().position(|&one| one == mutant).expect("a mutant of the list");
-    for &mutant in &MUTANTS[at(Mutant::HalvesSwapped)..=at(Mutant::SealedSilent)] {
+    let halves = &MUTANTS[at(Mutant::HalvesSwapped)..=at(Mutant::SealedSilent)];
+    let clearances = &MUTANTS[at(Mutant::TryLabel)..=at(Mutant::UncaughtBody)];
+    for &mutant in halves.iter().chain(clearances) {
         let told = |case: &days::DayCase| {
             let labels = Day::parse(&case.file).map_or(0, |day| day.parts.labels().len());
             (0..labels).any(|reader| {

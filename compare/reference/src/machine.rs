@@ -29,6 +29,7 @@ pub fn run<R: Rules>(file: &File, rules: &R) -> Finished {
 /// Runs a job from `run`, its start, on `store`.
 pub fn run_job<R: Rules>(parts: &Parts, job: &Job, mut run: Run, mut store: Store, rules: &R) -> Finished {
     store.reserve(job.places.into());
+    rules.starts(&run);
     let mut machine = Machine { code: job.code, labels: parts.labels(), store, rules };
     let ending = machine.run(&mut run);
     Finished {
@@ -69,14 +70,25 @@ impl<R: Rules> Machine<'_, R> {
                 }
                 Err(fault) => {
                     self.rules.obeyed(run, opcode, Some(fault));
-                    if !run.catch(fault) {
+                    if !self.catch(run, fault) {
                         return Ending::Fault(fault);
                     }
-                    self.rules.caught(run, fault);
                 }
             }
         }
         Ending::Spent
+    }
+
+    /// Whether there is a frame for `fault`. Of what stood at TRY, its handler
+    /// gets the clearance back and not the label.
+    fn catch(&self, run: &mut Run, fault: Fault) -> bool {
+        let Some(frame) = run.catch(fault) else {
+            self.rules.uncaught(run);
+            return false;
+        };
+        run.clearance = self.rules.given_back(run, frame, fault);
+        self.rules.caught(run, fault);
+        true
     }
 
     /// One instruction. Until it is sure not to fault it changes nothing, save
@@ -111,10 +123,8 @@ impl<R: Rules> Machine<'_, R> {
             WRITE => self.write(run)?,
             LABOF => self.label_of(run)?,
             BLOCK => self.block(run, operand)?,
-            TRY => {
-                run.frames.push(Frame { handler: self.short(operand), height: run.stack.height() as u8 })?
-            }
-            DONE => drop(run.frames.pop().ok_or(Fault::FRAMES)?),
+            TRY => self.try_to(run, operand)?,
+            DONE => self.done(run)?,
             THROW => return Err(Fault::thrown(run.stack.number(0)?)),
             INPUT => self.input(run, operand)?,
             _ => unreachable!("check 7 knows every opcode"),
@@ -128,6 +138,17 @@ impl<R: Rules> Machine<'_, R> {
         if zero {
             run.at = self.short(operand).into();
         }
+        Ok(())
+    }
+
+    fn try_to(&self, run: &mut Run, operand: usize) -> Result<(), Fault> {
+        let height = run.stack.height() as u8;
+        run.frames.push(Frame { handler: self.short(operand), height, clearance: run.clearance })
+    }
+
+    fn done(&self, run: &mut Run) -> Result<(), Fault> {
+        let frame = run.frames.pop().ok_or(Fault::FRAMES)?;
+        self.rules.dropped(run, frame);
         Ok(())
     }
 

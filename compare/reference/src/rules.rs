@@ -8,7 +8,7 @@
 use crate::label::Label;
 use crate::limits::NESTED_BLOCKS;
 use crate::opcode::OPEN;
-use crate::run::Run;
+use crate::run::{Frame, Run};
 use crate::store::Store;
 use crate::value::{Content, Ending, Fault};
 
@@ -155,6 +155,13 @@ pub trait Rules {
         unreachable!("a handle is made with its record and goes with it")
     }
 
+    /// The clearance that a handler runs with: the one that stood at the TRY of
+    /// `frame`, which caught `fault`. That of the throw is still the run's.
+    #[inline]
+    fn given_back(&self, _run: &Run, frame: Frame, _fault: Fault) -> Label {
+        frame.clearance
+    }
+
     /// What a block's outcome holds; `to_bound` is the flow test of the body's final
     /// label to the bound.
     #[inline]
@@ -207,6 +214,10 @@ pub trait Rules {
 
     // The paper has nothing more happen at these moments.
 
+    /// The script of a file or of a job starts.
+    #[inline]
+    fn starts(&self, _run: &Run) {}
+
     /// A body is about to start; `outer` has paid for it.
     #[inline]
     fn entering(&self, _outer: &mut Run, _body: &mut Run) {}
@@ -218,6 +229,14 @@ pub trait Rules {
     /// A fault was caught; the handler's first instruction is next.
     #[inline]
     fn caught(&self, _run: &mut Run, _fault: Fault) {}
+
+    /// A fault was not caught; the run ends with it.
+    #[inline]
+    fn uncaught(&self, _run: &mut Run) {}
+
+    /// DONE has dropped `frame`.
+    #[inline]
+    fn dropped(&self, _run: &mut Run, _frame: Frame) {}
 
     /// An instruction was obeyed, or threw `fault`.
     #[inline]

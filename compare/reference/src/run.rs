@@ -54,14 +54,15 @@ impl Run {
         }
     }
 
-    /// Hands `fault` to the newest frame; without one, the fault is not caught.
-    pub fn catch(&mut self, fault: Fault) -> bool {
-        let Some(frame) = self.frames.pop() else { return false };
+    /// Removes the newest frame and goes to its handler with `fault`; without a
+    /// frame, the fault is not caught. Which clearance stands then is a rule.
+    pub fn catch(&mut self, fault: Fault) -> Option<Frame> {
+        let frame = self.frames.pop()?;
         self.stack.cut(frame.height as usize);
         self.stack.push(Value::Number(fault.code.into()));
         self.stack.push(Value::Number(fault.number));
         self.at = frame.handler as usize;
-        true
+        Some(frame)
     }
 }
 
@@ -196,30 +197,35 @@ impl Stack {
 pub struct Frame {
     pub handler: u16,
     pub height: u8,
+    pub clearance: Label,
 }
 
+/// The frames of one run.
 #[derive(Clone, Debug)]
 pub struct Frames {
-    frames: [Frame; FRAMES],
-    count: usize,
+    // Most runs have none, and bodies should not be slow to start.
+    frames: Vec<Frame>,
 }
 
 impl Frames {
-    const EMPTY: Frames = Frames { frames: [Frame { handler: 0, height: 0 }; FRAMES], count: 0 };
+    const EMPTY: Frames = Frames { frames: Vec::new() };
 
-    pub fn count(&self) -> usize {
-        self.count
+    /// The frames that there are, the newest last.
+    pub fn open(&self) -> &[Frame] {
+        &self.frames
     }
 
+    #[inline]
     pub fn push(&mut self, frame: Frame) -> Result<(), Fault> {
-        let slot = self.frames.get_mut(self.count).ok_or(Fault::FRAMES)?;
-        *slot = frame;
-        self.count += 1;
+        if self.frames.len() == FRAMES {
+            return Err(Fault::FRAMES);
+        }
+        self.frames.push(frame);
         Ok(())
     }
 
+    #[inline]
     pub fn pop(&mut self) -> Option<Frame> {
-        self.count = self.count.checked_sub(1)?;
-        Some(self.frames[self.count])
+        self.frames.pop()
     }
 }
