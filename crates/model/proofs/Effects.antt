@@ -1,6 +1,6 @@
 -- What an instruction can do to account and store: six effects. What holds of each holds of every instruction, and what
 -- goes through each goes through a run. Theorems on one run are proved by these two principles, once for each effect. They
--- are for what does not hang on the clearance, which a handler's frame changes; what does is in Landing.
+-- serve what says nothing of the clearance, since a caught fault takes that from a frame; Landing serves what does.
 use mathlib.Core.Bool.{true}
 use mathlib.Core.List.{List, [], _∷_}
 use mathlib.Core.Path.{_≡_, refl}

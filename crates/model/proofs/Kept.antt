@@ -177,7 +177,12 @@ module _ (P : Program) (Low : Label → Bool) (D : LowSet P Low) where
         effects = λ R RK a σ fr. record {
           keeps = kept-refl a σ fr;
           clears = λ b τ m k. record {
-            within = k .within; fresh = k .fresh; sized = k .sized; shells = k .shells; stays = k .stays; hides = k .hides;
+            within = k .within;
+            fresh = k .fresh;
+            sized = k .sized;
+            shells = k .shells;
+            stays = k .stays;
+            hides = k .hides;
           };
           raises-to = λ l e. account-kept a (P .join (a .label) l) (a .clearance) (a .steps) σ fr
               (up (a .label) (P .join (a .label) l) (D .join-left (a .label) l));

@@ -1,5 +1,6 @@
--- Every state that a run comes to, in itself or in the body of a block: the code goes on only where N holds, and no handle is
--- to an empty place. So the definition's totals, an END past the code and fault 33 of an empty place, are never met.
+-- Every state that a run comes to, in itself or in the body of a block: a property of label, clearance and frames that each
+-- way to change them keeps holds there, the code goes on only where N holds, and no handle is to an empty place. So the
+-- definition's totals, an END past the code and fault 33 of an empty place, are never met.
 use mathlib.Core.Bool.{Bool, true, true≢false}
 use mathlib.Core.List.{List, [], _∷_}
 use mathlib.Core.Logic.{_≢_}
