@@ -1,7 +1,7 @@
 //! Frames in the bodies of blocks, and around them: a body's frames are its own, and at
 //! its end the outer clearance comes back.
 
-use crate::clearances::{check, lower, one, throw};
+use crate::clearances::{check, lower, lowered_and_done, one, throw};
 use crate::kept::{lowered_frame, player_and_dealer, two_frames};
 use crate::label::{CLEARANCE, PLAYER, PUBLIC};
 use crate::record::*;
@@ -62,15 +62,7 @@ fn tries() -> Vec<Case> {
             block(code, open, lowered_frame);
         }),
         case("DONE in a body keeps the lowered clearance", Expected::number(1), |code| {
-            block(code, open, |code| {
-                let handler = code.target();
-                code.try_to(handler);
-                lower(code, PLAYER);
-                code.op(DONE);
-                check(code, CLR, PLAYER);
-                code.place(handler);
-                one(code);
-            });
+            block(code, open, lowered_and_done);
         }),
     ]
 }

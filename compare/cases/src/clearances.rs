@@ -181,18 +181,21 @@ fn by_count() -> Vec<Case> {
     ]
 }
 
+/// The clearance is lowered under a frame, and DONE drops it; 1 if it stays lowered.
+pub fn lowered_and_done(code: &mut Code) {
+    let handler = code.target();
+    code.try_to(handler);
+    lower(code, PLAYER);
+    code.op(DONE);
+    check(code, CLR, PLAYER);
+    code.place(handler);
+    one(code);
+}
+
 /// Nothing but a caught fault gives a clearance back.
 fn stays() -> Vec<Case> {
     vec![
-        case("DONE keeps the lowered clearance", Expected::number(1), |code| {
-            let handler = code.target();
-            code.try_to(handler);
-            lower(code, PLAYER);
-            code.op(DONE);
-            check(code, CLR, PLAYER);
-            code.place(handler);
-            one(code);
-        }),
+        case("DONE keeps the lowered clearance", Expected::number(1), lowered_and_done),
         case("END under a frame keeps the lowered clearance", Expected::number(1), |code| {
             let handler = code.target();
             code.try_to(handler);

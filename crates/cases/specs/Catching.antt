@@ -100,7 +100,7 @@ abbrev pub catchingCases : List Case
 catchingCases =
     record { number = 35; holds = resultIs inside 7 }
     ∷ record { number = 36; holds = faultsWith before 24 1 }
-    -- the label stays as at the throw, and so does what the number thrown may tell
+    -- the label stays as at the throw: the number that was thrown is the record's
     ∷ record { number = 37; holds = resultIsLabel (raised endLabel) player }
     ∷ record { number = 38; holds = resultIs (raised (0x00 ∷ [])) 7 && labelIs (raised (0x00 ∷ [])) player }
     -- of nested frames the newest gives back its own; once it is gone, the next one its own

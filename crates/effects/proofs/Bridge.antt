@@ -17,7 +17,7 @@ use Rattle.model.specs.declared.Instr.{Instr}
 use Rattle.model.specs.declared.Instr.the-variants.{End, Push, Lab, Get, Set, Pop, Add, Sub, Less, Same, Jump, Ifz, Cur, Clr, Raise, Lower, Flows, Join, Meet, Seal, Open, Labof, New, Read, Write, Block, Try, Done, Throw, Input}
 use Rattle.model.specs.State.{Control, Store, Program, flowsIn, Runner, jump, setLocal, withFrames}
 use Rattle.model.specs.declared.Account.{Account}
-use Rattle.model.specs.Operands.{Plan, faults, asks, none, ends, throws, raises, lowers, labels, opens, makes, writes, blocks, asNumber, asLabel, asHandle, asSealed, asReference, dropFrame, arity, arityIs, operate, plan, pop, popNumber, popLabel, pushes, truth}
+use Rattle.model.specs.Operands.{Plan, faults, asks, none, ends, throws, raises, lowers, labels, opens, makes, writes, blocks, asNumber, asLabel, asHandle, asSealed, asReference, dropFrame, arity, arityIs, operate, plan, pop, popNumber, popLabel, pushes, tried, truth}
 use Rattle.model.specs.Effects.{go, act}
 use Rattle.model.specs.Decoding.{byte}
 use Rattle.model.specs.Inputs.{kindOf}
@@ -204,7 +204,7 @@ module _ (code ws rs : List ℕ) (R : Runner) (c : Control) (a : Account) (σ : 
 
     try-good : (h : ℕ) (z : Bool) → ltb (length (c .frames)) 8 ≡ z → height + 2 ≤ 32
         → Does y x (decides (cond z (Do (decided 0 (Tries h))) (Do (faulty 29))))
-        (cond z (asks (withFrames (record { handler = h; height = length (c .stack); clearance = a .clearance } ∷ c .frames) c) none) (faults 29))
+        (cond z (asks (withFrames (tried h a c ∷ c .frames) c) none) (faults 29))
     unfolding perform act
     try-good h true e r =
         let g : Fits (less 0 c) a 2 0 0 0 = fit c a 0 2 b (omega arith) (omega (arith, r)) in

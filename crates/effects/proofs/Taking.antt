@@ -12,6 +12,7 @@ use Rattle.model.specs.declared.Contents.the-variants.{Value as Holds}
 use Rattle.model.specs.declared.Ending.the-variants.{Result}
 use Rattle.model.specs.State.{Control, Store, Runner, at, number, push, jump, setLocal, withStack, withFrames, withLabel, withClearance, withNext}
 use Rattle.model.specs.declared.Account.{Account}
+use Rattle.model.specs.Operands.{tried}
 use Rattle.model.specs.Effects.{Next, go, stop, fail, holding, sealOutcome, bodyControl, bodyAccount}
 use Rattle.store.specs.Records.{recordLabel, recordValue, rewritten}
 use Rattle.operands.specs.Program.{program}
@@ -87,7 +88,7 @@ module _ (code ws rs : List ℕ) (R : Runner) (c : Control) (a : Account) (σ : 
   settle (GivesPair f) = go (push (Labelled (pairedOf f (labelOf y) (labelOf x))) c) a σ
   settle (Get i) = go (push (getD (c .locals) i (number 0) .datum) c) a σ
   settle (Set i) = go (setLocal i y c) a σ
-  settle (Try h) = go (withFrames (record { handler = h; height = length (c .stack); clearance = a .clearance } ∷ c .frames) c) a σ
+  settle (Try h) = go (withFrames (tried h a c ∷ c .frames) c) a σ
   settle Done = go (withFrames (drop 1 (c .frames)) c) a σ
   settle End = stop (Result y) a σ
   settle Raise = go c (withLabel (join (a .label) (labelOf y)) a) σ

@@ -13,6 +13,7 @@ use Rattle.model.specs.declared.Datum.the-variants.{Number}
 use Rattle.model.specs.declared.Value.{Value}
 use Rattle.model.specs.declared.Frame.{Frame}
 use Rattle.model.specs.State.{Control, Store, number, push, withFrames}
+use Rattle.model.specs.Operands.{tried}
 use Rattle.model.specs.Effects.{go}
 use Rattle.effects.proofs.Taking.{less, Bounded, Fits}
 use Rattle.effects.proofs.Popping.{Tops}
@@ -42,8 +43,12 @@ kept i v s = record { stack = s .stack; top = s .top; locals = set (s .locals) i
 abbrev pub with-locals : List Value → State → State
 with-locals ls s = record { stack = s .stack; top = s .top; locals = ls; frames = s .frames; newest = s .newest; label = s .label; clearance = s .clearance; steps = s .steps; next = s .next; limit = s .limit; depth = s .depth; pc = s .pc; progress = s .progress }
 
+-- the frame that TRY stores
+abbrev newFrame : ℕ → State → Frame
+newFrame h s = record { handler = h; height = 32 - s .top; clearance = s .clearance }
+
 abbrev pub framed : ℕ → State → State
-framed h s = record { stack = s .stack; top = s .top; locals = s .locals; frames = set (s .frames) (s .newest - 1) (record { handler = h; height = 32 - s .top; clearance = s .clearance }); newest = s .newest - 1; label = s .label; clearance = s .clearance; steps = s .steps; next = s .next; limit = s .limit; depth = s .depth; pc = s .pc; progress = s .progress }
+framed h s = record { stack = s .stack; top = s .top; locals = s .locals; frames = set (s .frames) (s .newest - 1) (newFrame h s); newest = s .newest - 1; label = s .label; clearance = s .clearance; steps = s .steps; next = s .next; limit = s .limit; depth = s .depth; pc = s .pc; progress = s .progress }
 
 abbrev pub unframed : State → State
 unframed s = record { stack = s .stack; top = s .top; locals = s .locals; frames = s .frames; newest = s .newest + 1; label = s .label; clearance = s .clearance; steps = s .steps; next = s .next; limit = s .limit; depth = s .depth; pc = s .pc; progress = s .progress }
@@ -81,22 +86,22 @@ ok-framed h s o p q =
       stack = o .stack;
       frames = record {
         index = let d = o .frames .index in omega arith;
-        size = length-set (s .frames) (s .newest - 1) (record { handler = h; height = 32 - s .top; clearance = s .clearance }) ∙ o .frames .size;
-        low = all-set (λ (f : Frame). f .height ≤ 30) (s .frames) (s .newest - 1) (record { handler = h; height = 32 - s .top; clearance = s .clearance }) no-frame (o .frames .low) (omega arith);
+        size = length-set (s .frames) (s .newest - 1) (newFrame h s) ∙ o .frames .size;
+        low = all-set (λ (f : Frame). f .height ≤ 30) (s .frames) (s .newest - 1) (newFrame h s) no-frame (o .frames .low) (omega arith);
       };
       locals = o .locals;
       places = o .places;
     }
 
-pub control-framed : (h : ℕ) (s : State) → Ok s → 0 < s .newest → control (framed h s) ≡ withFrames (record { handler = h; height = length (drop (s .top) (s .stack)); clearance = s .clearance } ∷ drop (s .newest) (s .frames)) (control s)
+pub control-framed : (h : ℕ) (s : State) → Ok s → 0 < s .newest → control (framed h s) ≡ withFrames (tried h (account s) (control s) ∷ drop (s .newest) (s .frames)) (control s)
 control-framed h s o p =
     let i : s .newest - 1 + 1 ≡ s .newest = omega arith in
     let d = o .frames .index in
     let z = o .frames .size in
     let n : 32 - s .top ≡ length (drop (s .top) (s .stack)) = let e = stack-length s o in omega arith in
     ap (λ (l : List Frame). withFrames l (control s))
-    (drop-set (s .frames) (s .newest - 1) (record { handler = h; height = 32 - s .top; clearance = s .clearance }) (omega arith)
-    ∙ ap (λ (j : ℕ). record { handler = h; height = 32 - s .top; clearance = s .clearance } ∷ drop j (s .frames)) i
+    (drop-set (s .frames) (s .newest - 1) (newFrame h s) (omega arith)
+    ∙ ap (λ (j : ℕ). newFrame h s ∷ drop j (s .frames)) i
     ∙ ap (λ (m : ℕ). record { handler = h; height = m; clearance = s .clearance } ∷ drop (s .newest) (s .frames)) n)
 
 pub next-live : (r : State) → Live r → (σ : Store) → nextOf r σ ≡ go (control r) (account r) σ

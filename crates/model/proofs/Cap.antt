@@ -31,6 +31,10 @@ module _ (P : Program) where
   Rising top m [] = flowsIn P m top ≡ true
   Rising top m (f ∷ fs) = (flowsIn P m (f .clearance) ≡ true) × Rising top (f .clearance) fs
 
+  -- of label l, too
+  abbrev Rises : Label → Label → Label → List Frame → Type 0
+  Rises top l m fs = (flowsIn P l m ≡ true) × Rising top m fs
+
   -- of a state of a run that started with clearance top
   pub record Capped (top : Label) (c : Control) (a : Account) : Type 0 where
     pub label-below : flowsIn P (a .label) (a .clearance) ≡ true
@@ -54,11 +58,7 @@ module _ (P : Program) (O : Preorder P) (top : Label) where
   lowered k m [] e r = O .transitive k m top e r
   lowered k m (f ∷ fs) e r = (O .transitive k m (f .clearance) e (r .0), r .1)
 
-  -- the label flows to the clearance, and so on upwards
-  abbrev Rises : Label → Label → List Frame → Type 0
-  Rises l m fs = (flowsIn P l m ≡ true) × Rising P top m fs
-
-  rises-keep : Keeps P anywhere Rises
+  rises-keep : Keeps P anywhere (Rises P top)
   rises-keep =
       record {
         tries = λ l m h n fs _ g. (g .0, (O .reflexive m, g .1));
@@ -74,7 +74,7 @@ module _ (P : Program) (O : Preorder P) (c₀ : Control) (a₀ : Account) (σ₀
   abbrev top : Label
   top = a₀ .clearance
 
-  rises-first : Rises P O top (a₀ .label) top (c₀ .frames)
+  rises-first : Rises P top (a₀ .label) top (c₀ .frames)
   rises-first = (starts, subst (Rising P top top) (sym none) (O .reflexive top))
 
   anything : (pc : ℕ) → anywhere pc → Lands anywhere (P .after pc) (P .fetch pc)
@@ -83,7 +83,7 @@ module _ (P : Program) (O : Preorder P) (c₀ : Control) (a₀ : Account) (σ₀
   -- The cap holds in every state,
   pub cap-holds : (c : Control) (a : Account) (σ : Store) → Reached P c₀ a₀ σ₀ c a σ → Capped P (a₀ .clearance) c a
   cap-holds c a σ h =
-      let r = reached-lands P anywhere (Rises P O top) (rises-keep P O top) anything c₀ a₀ σ₀ tt rises-first c a σ h .1 in
+      let r = reached-lands P anywhere (Rises P top) (rises-keep P O top) anything c₀ a₀ σ₀ tt rises-first c a σ h .1 in
       record {
         label-below = r .0;
         clearance-below = below-top P O top (a .clearance) (c .frames) (r .1);
@@ -94,4 +94,4 @@ module _ (P : Program) (O : Preorder P) (c₀ : Control) (a₀ : Account) (σ₀
   -- and at the end.
   pub cap-at-end : (flowsIn P (runs P c₀ a₀ σ₀ .account .label) (runs P c₀ a₀ σ₀ .account .clearance) ≡ true)
       × (flowsIn P (runs P c₀ a₀ σ₀ .account .clearance) (a₀ .clearance) ≡ true)
-  cap-at-end = runs-ends P anywhere (Rises P O top) (rises-keep P O top) anything c₀ a₀ σ₀ tt rises-first
+  cap-at-end = runs-ends P anywhere (Rises P top) (rises-keep P O top) anything c₀ a₀ σ₀ tt rises-first

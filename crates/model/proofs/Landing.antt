@@ -90,30 +90,30 @@ pub record Keeps (P : Program) (N : ℕ → Type 0) (H : Label → Label → Lis
   pub raises-to : (l m k : Label) (fs : List Frame) → flowsIn P (P .join l k) m ≡ true → H l m fs → H (P .join l k) m fs
   pub lowers-to : (l m k : Label) (fs : List Frame) → flowsIn P l k ≡ true → flowsIn P k m ≡ true → H l m fs → H l k fs
 
+-- a request that doesn't end the run goes on at pc; a body at its target
+abbrev GoesOn : (ℕ → Type 0) → ℕ → Request → Type 0
+GoesOn N pc none = N pc
+GoesOn N pc (ends d) = Unit {0}
+GoesOn N pc (throws n) = Unit {0}
+GoesOn N pc (raises l) = N pc
+GoesOn N pc (lowers l) = N pc
+GoesOn N pc (labels p) = N pc
+GoesOn N pc (opens p) = N pc
+GoesOn N pc (makes h l d) = N pc
+GoesOn N pc (writes p d) = N pc
+GoesOn N pc (blocks b t n k) = N t × N pc
+
+abbrev pub Holding : (Label → Label → List Frame → Type 0) → Account → List Frame → Type 0
+Holding H a fs = H (a .label) (a .clearance) fs
+
 module _ (N : ℕ → Type 0) (H : Label → Label → List Frame → Type 0) where
-  abbrev pub Holding : Account → List Frame → Type 0
-  Holding a fs = H (a .label) (a .clearance) fs
-
-  -- a request that doesn't end the run goes on at pc; a body at its target
-  abbrev GoesOn : ℕ → Request → Type 0
-  GoesOn pc none = N pc
-  GoesOn pc (ends d) = Unit {0}
-  GoesOn pc (throws n) = Unit {0}
-  GoesOn pc (raises l) = N pc
-  GoesOn pc (lowers l) = N pc
-  GoesOn pc (labels p) = N pc
-  GoesOn pc (opens p) = N pc
-  GoesOn pc (makes h l d) = N pc
-  GoesOn pc (writes p d) = N pc
-  GoesOn pc (blocks b t n k) = N t × N pc
-
   abbrev pub PlanLands : Account → Plan → Type 0
   PlanLands a (faults code) = Unit {0}
-  PlanLands a (asks r q) = GoesOn (r .pc) q × Holding a (r .frames)
+  PlanLands a (asks r q) = GoesOn N (r .pc) q × Holding H a (r .frames)
 
   abbrev pub NextLands : Next → Type 0
-  NextLands (go c a σ) = N (c .pc) × Holding a (c .frames)
-  NextLands (stop e a σ) = Holding a []
+  NextLands (go c a σ) = N (c .pc) × Holding H a (c .frames)
+  NextLands (stop e a σ) = Holding H a []
 
 module _ (P : Program) (N : ℕ → Type 0) (H : Label → Label → List Frame → Type 0) (K : Keeps P N H) where
   -- a run ends, and a body starts, with no frames
@@ -142,12 +142,12 @@ module _ (P : Program) (N : ℕ → Type 0) (H : Label → Label → List Frame 
     one-label : (c : Control) (k : Label → Control → Plan) → ((l : Label) (s : List Value) → Good (k l (withStack s c))) → Good (popLabel c k)
     one-label c k f = any c (λ d r. asLabel d (λ l. k l r)) (λ d s. label-of Good (λ _. tt) d (λ l. k l (withStack s c)) (λ l. f l s))
 
-    drop-lands : (c : Control) (fs : List Frame) → N (c .pc) → Holding N H a fs → Good (dropFrame c fs)
+    drop-lands : (c : Control) (fs : List Frame) → N (c .pc) → Holding H a fs → Good (dropFrame c fs)
     unfolding dropFrame
     drop-lands c [] h g = tt
     drop-lands c (f ∷ fs) h g = (h, K .drops (a .label) (a .clearance) f fs g)
 
-    operate-lands : (c : Control) (i : Instr) → Lands N (c .pc) i → Holding N H a (c .frames) → Good (operate P a c i)
+    operate-lands : (c : Control) (i : Instr) → Lands N (c .pc) i → Holding H a (c .frames) → Good (operate P a c i)
     unfolding operate
     operate-lands c End h g = any c _ (λ d s. (tt, g))
     operate-lands c (Push n) h g = (h, g)
@@ -181,7 +181,7 @@ module _ (P : Program) (N : ℕ → Type 0) (H : Label → Label → List Frame 
     operate-lands c Throw h g = one-number c _ (λ n s. (tt, g))
     operate-lands c (Input i) h g = (h, g)
 
-    pub plan-lands : (c : Control) (i : Instr) → Lands N (c .pc) i → Holding N H a (c .frames) → PlanLands N H a (plan P a c i)
+    pub plan-lands : (c : Control) (i : Instr) → Lands N (c .pc) i → Holding H a (c .frames) → PlanLands N H a (plan P a c i)
     unfolding plan
     plan-lands c i h g =
         cond-one Good (leb (arity i .takes) (length (c .stack)))
@@ -193,15 +193,15 @@ module _ (P : Program) (N : ℕ → Type 0) (H : Label → Label → List Frame 
   abbrev Goes : Next → Type 0
   Goes = NextLands N H
 
-  fail-lands : (code n : ℕ) (c : Control) (a : Account) (σ : Store) → Holding N H a (c .frames) → Goes (fail code n c a σ)
+  fail-lands : (code n : ℕ) (c : Control) (a : Account) (σ : Store) → Holding H a (c .frames) → Goes (fail code n c a σ)
   unfolding failTo
   fail-lands code n c a σ g = frames (c .frames) g
     where
-      frames : (fs : List Frame) → Holding N H a fs → Goes (failTo fs code n c a σ)
+      frames : (fs : List Frame) → Holding H a fs → Goes (failTo fs code n c a σ)
       frames [] g = g
       frames (f ∷ fs) g = K .catches (a .label) (a .clearance) f fs g
 
-  module _ (R : Runner) (c r : Control) (a : Account) (σ : Store) (gc : Holding N H a (c .frames)) (gr : Holding N H a (r .frames)) where
+  module _ (R : Runner) (c r : Control) (a : Account) (σ : Store) (gc : Holding H a (c .frames)) (gr : Holding H a (r .frames)) where
     fails : (code n : ℕ) → Goes (fail code n c a σ)
     fails code n = fail-lands code n c a σ gc
 
@@ -212,7 +212,7 @@ module _ (P : Program) (N : ℕ → Type 0) (H : Label → Label → List Frame 
         (λ e. cond-one Goes (flowsIn P l (a .clearance)) (λ f. h e f) (λ _. fails second _))
         (λ _. fails first _)
 
-    raise-lands : (l : Label) (x : Next) → (((fs : List Frame) → Holding N H a fs → Holding N H (raised P l a) fs) → Goes x)
+    raise-lands : (l : Label) (x : Next) → (((fs : List Frame) → Holding H a fs → Holding H (raised P l a) fs) → Goes x)
         → Goes (checkRaise P l c a σ x)
     raise-lands l x h =
         cond-one Goes (flowsIn P (P .join (a .label) l) (a .clearance))
@@ -223,7 +223,7 @@ module _ (P : Program) (N : ℕ → Type 0) (H : Label → Label → List Frame 
     open-lands Empty h = fails 33 0
     open-lands (Full x) h = raise-lands (x .label) _ (λ up. contents up (x .contents))
       where
-        contents : ((fs : List Frame) → Holding N H a fs → Holding N H (raised P (x .label) a) fs) → (y : Contents)
+        contents : ((fs : List Frame) → Holding H a fs → Holding H (raised P (x .label) a) fs) → (y : Contents)
             → Goes (yield c r (raised P (x .label) a) σ y)
         contents up (Holds d) = (h, up (r .frames) gr)
         contents up (Fault code n) = fail-lands code n c (raised P (x .label) a) σ (up (c .frames) gc)
@@ -238,7 +238,7 @@ module _ (P : Program) (N : ℕ → Type 0) (H : Label → Label → List Frame 
     write-lands p d Empty h = fails 33 0
     write-lands p d (Full x) h = between-lands 23 24 (x .label) _ (λ _ _. (h, gr))
 
-    act-lands : (q : Request) → GoesOn N H (r .pc) q → Goes (act P R c r a σ q)
+    act-lands : (q : Request) → GoesOn N (r .pc) q → Goes (act P R c r a σ q)
     unfolding act
     act-lands none h = (h, gr)
     act-lands (ends d) h = all-dropped (a .label) (a .clearance) (r .frames) gr
@@ -257,13 +257,13 @@ module _ (P : Program) (N : ℕ → Type 0) (H : Label → Label → List Frame 
         (λ _. fails 27 0))
         (λ _. fails 28 0))
 
-  perform-lands : (R : Runner) (c : Control) (a : Account) (σ : Store) → Holding N H a (c .frames) → (q : Plan) → PlanLands N H a q
+  perform-lands : (R : Runner) (c : Control) (a : Account) (σ : Store) → Holding H a (c .frames) → (q : Plan) → PlanLands N H a q
       → Goes (perform P R c a σ q)
   unfolding perform
   perform-lands R c a σ g (faults code) h = fail-lands code 0 c a σ g
   perform-lands R c a σ g (asks r q) h = act-lands R c r a σ g (h .1) q (h .0)
 
-  pub step-lands : (R : Runner) (c : Control) (a : Account) (σ : Store) → Lands N (P .after (c .pc)) (P .fetch (c .pc)) → Holding N H a (c .frames)
+  pub step-lands : (R : Runner) (c : Control) (a : Account) (σ : Store) → Lands N (P .after (c .pc)) (P .fetch (c .pc)) → Holding H a (c .frames)
       → NextLands N H (step P R c a σ)
   unfolding step
   step-lands R c a σ h g =

@@ -82,8 +82,8 @@ anyLabel l = true
 module _ (P : Program) (N : ℕ → Type 0) (H : Label → Label → List Frame → Type 0) (K : Keeps P N H)
     (sound : (pc : ℕ) → N pc → Lands N (P .after pc) (P .fetch pc)) where
   -- holds of every state, if of the first
-  pub reached-lands : (c₀ : Control) (a₀ : Account) (σ₀ : Store) → N (c₀ .pc) → Holding N H a₀ (c₀ .frames) → (c : Control) (a : Account) (σ : Store)
-      → Reached P c₀ a₀ σ₀ c a σ → N (c .pc) × Holding N H a (c .frames)
+  pub reached-lands : (c₀ : Control) (a₀ : Account) (σ₀ : Store) → N (c₀ .pc) → Holding H a₀ (c₀ .frames) → (c : Control) (a : Account) (σ : Store)
+      → Reached P c₀ a₀ σ₀ c a σ → N (c .pc) × Holding H a (c .frames)
   reached-lands c₀ a₀ σ₀ i g c a σ here = (i, g)
   reached-lands c₀ a₀ σ₀ i g d b τ (next {c = c} {a = a} {σ = σ} n h e f) =
       let s = reached-lands c₀ a₀ σ₀ i g c a σ h in
@@ -95,15 +95,15 @@ module _ (P : Program) (N : ℕ → Type 0) (H : Label → Label → List Frame 
 
   -- of a runner: the account that it ends with
   abbrev EndsHolding : Runner → Type 0
-  EndsHolding R = (c : Control) (a : Account) (σ : Store) → N (c .pc) → Holding N H a (c .frames) → Holding N H (R c a σ .account) []
+  EndsHolding R = (c : Control) (a : Account) (σ : Store) → N (c .pc) → Holding H a (c .frames) → Holding H (R c a σ .account) []
 
-  resume-ends : (R : Runner) → EndsHolding R → (x : Next) → NextLands N H x → Holding N H (resume R x .account) []
+  resume-ends : (R : Runner) → EndsHolding R → (x : Next) → NextLands N H x → Holding H (resume R x .account) []
   unfolding resume
   resume-ends R e (go c a σ) h = e c a σ (h .0) (h .1)
   resume-ends R e (stop d a σ) h = h
 
-  pay-ends : (m : ℕ) (c : Control) (a : Account) (σ : Store) (k : Account → Outcome) → Holding N H a (c .frames)
-      → ((n : ℕ) → Holding N H (k (withSteps n a) .account) []) → Holding N H (pay m a σ k .account) []
+  pay-ends : (m : ℕ) (c : Control) (a : Account) (σ : Store) (k : Account → Outcome) → Holding H a (c .frames)
+      → ((n : ℕ) → Holding H (k (withSteps n a) .account) []) → Holding H (pay m a σ k .account) []
   unfolding pay
   pay-ends zero c a σ k g h = all-dropped P N H K (a .label) (a .clearance) (c .frames) g
   pay-ends (suc n) c a σ k g h = h n

@@ -128,6 +128,10 @@ abbrev pub truth : Bool → Datum
 truth true = Number 1
 truth false = Number 0
 
+-- the frame that TRY adds: "the clearance that stood at TRY" is kept in it
+abbrev pub tried : ℕ → Account → Control → Frame
+tried h a c = record { handler = h; height = length (c .stack); clearance = a .clearance }
+
 unfoldable pub dropFrame : Control → List Frame → Plan
 dropFrame c [] = faults 29
 dropFrame c (f ∷ fs) = asks (withFrames fs c) none
@@ -162,7 +166,7 @@ operate P a c Write = pop c (λ h r. pop r (λ d q. asReference h (λ p. asks q 
 operate P a c (Block t n k) = popLabel c (λ b r. asks r (blocks b t n k))
 operate P a c (Try h) =
     cond (ltb (length (c .frames)) 8)
-    (asks (withFrames (record { handler = h; height = length (c .stack); clearance = a .clearance } ∷ c .frames) c) none)
+    (asks (withFrames (tried h a c ∷ c .frames) c) none)
     (faults 29)
 operate P a c Done = dropFrame c (c .frames)
 operate P a c Throw = popNumber c (λ n r. asks r (throws n))

@@ -44,6 +44,7 @@ module _ (code : List ℕ) (ls : ℕ → Label) (xs : List Input) where
         join-right = λ k l. T-true (flows l (join k l)) (labels .le-right k l);
       }
 
+  -- All that the cap asks of the order.
   pub preorder : Preorder (programOf code ls xs)
   preorder =
       record {
