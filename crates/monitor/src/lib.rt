@@ -1,10 +1,14 @@
-// The open calls: reading a file, or a day, for a label into a buffer. They ask nothing of their caller.
+// The open calls: reading a file, or a day, for a label into a buffer, and the quote of a file. They ask nothing of their
+// caller.
+use quote::Quote;
 use script_file::Loaded;
 use view::Answer;
 ghost use mathlib.Core.Path.{_≡_};
 ghost use Rattle.view.specs.Reading.{reading};
 ghost use Rattle.day.specs.Views.{dayReading};
 ghost use Rattle.reading.specs.Answers.{reads, codeOf};
+ghost use Rattle.quote.specs.Quoting.{quoting};
+ghost use Rattle.monitor.specs.Calls.{quoteCode};
 
 // Reads a file for the label with index `reader`: its view goes to the start of `buffer`.
 pub fn read(file: &[u8], reader: usize, buffer: &mut [u8]) -> Answer
@@ -49,5 +53,24 @@ pub extern "C" fn nechwalu_read_day(file: &[u8], reader: usize, buffer: &mut [u8
     match read_day(file, reader, buffer) {
         Answer::Refused(n) => n as usize,
         Answer::Viewed(n) => n,
+    }
+}
+
+// The quote of a file: the largest steps and the largest places along any path through its code.
+pub fn quote(file: &[u8]) -> Quote
+    ensures { λ r. ⌜ r ≡ quoting (now (file .entry)) ⌝ }
+{
+    quote::quote_file(file)
+}
+
+// The same for C and Rust, with one number for an answer: below 2 ^ 32 it is the refusal's; else the steps are its upper 32
+// bits and the places its lower.
+#[no_mangle]
+pub extern "C" fn nechwalu_quote(file: &[u8]) -> u64
+    ensures { λ r. ⌜ r ≡ quoteCode (quoting (now (file .entry))) ⌝ }
+{
+    match quote(file) {
+        Quote::Refused(n) => n,
+        Quote::Quoted(f) => 4294967296 * f.steps as u64 + f.places as u64,
     }
 }

@@ -18,12 +18,12 @@ use Rattle.code_check.proofs.Starts.{size-some, sweep-past, sweep-here, after-s
 
 -- ── tests ──
 
-either : (s t : Bool) → (s || t) ≡ true → (s ≡ true) ⊎ (t ≡ true)
+pub either : (s t : Bool) → (s || t) ≡ true → (s ≡ true) ⊎ (t ≡ true)
 either true t e = inl refl
 either false t e = inr e
 
 -- what holds of all holds of each
-all-among : (f : ℕ → Bool) (is : List ℕ) (t : ℕ) → all f is ≡ true → among t is ≡ true → f t ≡ true
+pub all-among : (f : ℕ → Bool) (is : List ℕ) (t : ℕ) → all f is ≡ true → among t is ≡ true → f t ≡ true
 all-among f [] t e h = absurd (true≢false (sym h))
 all-among f (i ∷ is) t e h = one (all-among f is t (and-eq-true-iff (f i) (all f is) .0 e .1)) (either (eqb t i) (among t is) h)
   where
