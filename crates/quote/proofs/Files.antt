@@ -1,12 +1,12 @@
 -- A file that loads has code that is quoted; one that does not is refused with its number.
 use mathlib.Core.Bool.{false}
 use mathlib.Core.List.{List}
-use mathlib.Core.Path.{_≡_, refl, sym, ap, _∙_}
-use Prim.Native.Nat.{ℕ, _≤_}
+use mathlib.Core.Path.{_≡_, ap, _∙_}
+use Prim.Native.Nat.{ℕ}
 use native.Mathlib.Omega.{arith}
 use borrow.Author.Tests.{ne-eqb}
 use lib.Dec.{eqb}
-use lib.ListN.{length, length-drop}
+use lib.ListN.{length-drop}
 use Rattle.script_file.specs.Sections.{header, codeBytes}
 use Rattle.script_file.specs.Checks.{passes7, refusal}
 use Rattle.script_file.specs.Loading.{refusalNumber, loaded}

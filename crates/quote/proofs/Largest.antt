@@ -1,9 +1,9 @@
 -- The largest cost of a path is the largest: no path costs more, and one costs as much. For any costs, and for any places from
 -- which every path leads ahead and that are all below a bound.
-use mathlib.Core.Bool.{Bool, true, false, true≢false, _||_, or-eq-true-iff}
+use mathlib.Core.Bool.{true, true≢false, or-eq-true-iff}
 use mathlib.Core.List.{List, [], _∷_}
-use mathlib.Core.Logic.{_⊎_, inl, inr, Or·inl, Or·inr}
-use mathlib.Core.Path.{_≡_, refl, sym, ap, _∙_, subst}
+use mathlib.Core.Logic.{_⊎_, inl, inr, Or·inr}
+use mathlib.Core.Path.{_≡_, refl, sym, ap}
 use Prim.Native.Nat.{ℕ, zero, suc, _+_, _*_, _≤_, _<_, max}
 use native.Mathlib.Decide.{decLe}
 use native.Mathlib.Omega.{arith}
@@ -113,7 +113,7 @@ module _ (cost : ℕ → ℕ) (s : ℕ → List ℕ) (bound : ℕ) (N : ℕ → 
       by : ((j : ℕ) → N j → bound ≤ n + j → (p : Path s j) × (pathCost cost p ≡ largest cost s n j)) → (is : List ℕ) → s i ≡ is
           → (p : Path s i) × (pathCost cost p ≡ cost i + most (largest cost s n) (s i))
       by next [] e = (stops e, rw e (omega arith))
-      by next (k ∷ ks) e = 
+      by next (k ∷ ks) e =
           let r = most-reached (largest cost s n) k ks in
           let g : among (r .at) (s i) ≡ true = rw e (r .member) in
           let p = next (r .at) (F .onward i (r .at) h g) (omega (arith, F .ahead i (r .at) h g)) in

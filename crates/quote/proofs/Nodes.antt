@@ -1,9 +1,9 @@
 -- An instruction's node by its opcode, and where a path goes from it.
-use mathlib.Core.Bool.{Bool, true, true≢false}
+use mathlib.Core.Bool.{true, true≢false}
 use mathlib.Core.List.{List, [], _∷_, map}
 use mathlib.Core.Logic.{_⊎_, inl, inr}
 use mathlib.Core.Path.{_≡_, refl, sym, ap, _∙_, subst}
-use Prim.Native.Nat.{ℕ, zero, suc, _+_, _*_, _≤_, _<_}
+use Prim.Native.Nat.{ℕ, zero, suc, _+_, _≤_, _<_}
 use native.Mathlib.Omega.{arith}
 use borrow.Author.Tests.{ltb-true}
 use lib.ListN.{length, getD, replicate}
@@ -14,8 +14,7 @@ use Rattle.model.proofs.Places.{blank}
 use Rattle.model.proofs.Landing.{Each, Lands}
 use Rattle.decode.proofs.Sizes.{NotAmong, cleared, elsewhere}
 use Rattle.formulas.specs.Lists.{among}
-use Rattle.quote.specs.Quoting.{Node, nodeIs, node, nodeAt, stepsAt, placesAt}
-use Rattle.quote.specs.Passes.{figuresAre, ownFigures}
+use Rattle.quote.specs.Quoting.{Node, nodeIs, goesOn, node, nodeAt, stepsAt, placesAt}
 use Rattle.quote.proofs.Largest.{which}
 
 -- ── by the opcode ──
@@ -39,17 +38,9 @@ module _ (code : List ℕ) (i op : ℕ) (k : known op ≡ true) where
     abbrev here : Node
     here = node j next (getD (instrs code i) op End)
 
-    pub ahead-else : NotAmong (26 ∷ 25 ∷ 11 ∷ 10 ∷ []) op → true ≡ here .ahead
+    pub plain-else : NotAmong (28 ∷ 26 ∷ 25 ∷ 22 ∷ 19 ∷ 11 ∷ 10 ∷ 0 ∷ []) op → goesOn next ≡ here
     unfolding node instrs
-    ahead-else r = unless (λ x. node j next x .ahead) true (26 ∷ 25 ∷ 11 ∷ 10 ∷ []) refl r
-
-    pub cost-else : NotAmong (25 ∷ 22 ∷ 19 ∷ []) op → figuresAre 1 0 ≡ ownFigures here
-    unfolding node instrs
-    cost-else r = unless (λ x. ownFigures (node j next x)) (figuresAre 1 0) (25 ∷ 22 ∷ 19 ∷ []) refl r
-
-    pub onward-else : NotAmong (28 ∷ 11 ∷ 10 ∷ 0 ∷ []) op → (next ∷ []) ≡ here .successors
-    unfolding node instrs
-    onward-else r = unless (λ x. node j next x .successors) (next ∷ []) (28 ∷ 11 ∷ 10 ∷ 0 ∷ []) refl r
+    plain-else r = unless (node j next) (goesOn next) (28 ∷ 26 ∷ 25 ∷ 22 ∷ 19 ∷ 11 ∷ 10 ∷ 0 ∷ []) refl r
 
 -- ── its costs are small ──
 

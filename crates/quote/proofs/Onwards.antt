@@ -1,22 +1,22 @@
 -- Code that passes checks 7 and 11: from each start every path leads ahead, to starts. And the pass from the back: where the
 -- figures of all later starts are right, those of a start follow.
-use mathlib.Core.Bool.{Bool, true, false, true≢false, _&&_, and-eq-true-iff}
-use mathlib.Core.List.{List, [], _∷_}
+use mathlib.Core.Bool.{true, and-eq-true-iff}
+use mathlib.Core.List.{List}
 use mathlib.Core.Logic.{_⊎_, inl, inr}
-use mathlib.Core.Path.{_≡_, refl, sym, ap, _∙_, subst}
-use Prim.Native.Nat.{ℕ, _+_, _*_, _≤_, _<_, _^_}
+use mathlib.Core.Path.{_≡_, sym, ap, _∙_}
+use Prim.Native.Nat.{ℕ, _+_, _≤_, _<_}
 use native.Mathlib.Omega.{arith}
 use lib.Dec.{leb}
-use lib.ListN.{length, getD, set}
+use lib.ListN.{length, set}
 use lib.Seq.{getD-set-same, getD-set-other}
 use borrow.Author.Tests.{leb-true}
-use Rattle.model.specs.Decoding.{byte, known, size, fetch, after}
+use Rattle.model.specs.Decoding.{byte, known, fetch, after}
 use Rattle.formulas.specs.Lists.{among}
 use Rattle.code_check.specs.Sweep.{starts, all, instrOk, codeOk}
 use Rattle.code_check.proofs.Starts.{from, size-some, from-step, after-step}
 use Rattle.noninterference.proofs.Starts.{all-among, start-ok, lands}
 use Rattle.quote.specs.Paths.{most, largest}
-use Rattle.quote.specs.Quoting.{nodeAt, successorsAt, aheadAt, allAhead}
+use Rattle.quote.specs.Quoting.{nodeAt, successorsAt, aheadAt}
 use Rattle.quote.specs.Passes.{at}
 use Rattle.quote.proofs.Largest.{most-same, Forward, unfolded}
 use Rattle.quote.proofs.Nodes.{Onward, node-onward, each-among}

@@ -1,26 +1,25 @@
 -- The pass from the last instruction to the first, one instruction at a time.
-use mathlib.Core.Bool.{Bool, true, false, true≢false, cond}
+use mathlib.Core.Bool.{Bool, true, false, true≢false}
 use mathlib.Core.List.{List, [], _∷_}
 use mathlib.Core.Path.{_≡_, refl, sym, ap, _∙_, subst}
-use Prim.Native.Nat.{ℕ, zero, suc, _+_, _*_, _≤_, _<_, _^_}
-use native.Mathlib.Decide.{ℕ-discrete}
+use Prim.Native.Nat.{ℕ, zero, suc, _+_, _≤_, _<_, _^_}
 use native.Mathlib.Omega.{arith}
 use lib.ListN.{length, getD, set, length-set, List·getD-eq-default}
 use lib.Seq.{getD-set-same, getD-set-other}
 use Rattle.model.specs.Decoding.{byte, known, after}
+use Rattle.model.proofs.Places.{after-set}
 use Rattle.formulas.specs.Lists.{among}
-use Rattle.code_check.specs.Sweep.{starts, all, codeOk}
+use Rattle.code_check.specs.Sweep.{starts, all}
 use Rattle.code_check.proofs.Starts.{from, from-end, after-step}
 use Rattle.noninterference.proofs.Starts.{all-among}
 use Rattle.quote.specs.Paths.{most, largest}
-use Rattle.quote.specs.Quoting.{stepsAt, placesAt, successorsAt, aheadAt, allAhead, figuresFrom, codeQuote}
-use Rattle.quote.specs.Passes.{put, at, Checked}
-use Rattle.quote.specs.declared.Quote.{Quote}
+use Rattle.quote.specs.Quoting.{stepsAt, placesAt, successorsAt, aheadAt, allAhead, codeQuote}
+use Rattle.quote.specs.Passes.{put, at, Small, Checked}
 use Rattle.quote.specs.declared.Quote.the-variants.{Refused, Quoted}
 use Rattle.quote.proofs.Largest.{largest-within}
 use Rattle.quote.proofs.Nodes.{steps-small, places-small}
-use Rattle.quote.proofs.Suffixes.{behind, first-in, from-within, nth, nth-first, Nth, nth-start, starts-few}
-use Rattle.quote.proofs.Onwards.{Start, AllAhead, Right, start-known, start-whole, all-ahead, right-here, right-set}
+use Rattle.quote.proofs.Suffixes.{behind, first-in, from-within, nth, nth-first, Nth, nth-start}
+use Rattle.quote.proofs.Onwards.{AllAhead, Right, start-known, start-whole, all-ahead, right-here, right-set}
 
 -- ── the list of starts ──
 
@@ -49,6 +48,7 @@ place code k = nth code (from code 0) k
 -- one figure of each instruction from place e on stands in a list, and x is that at e
 pub record Done (code : List ℕ) (cost : ℕ → ℕ) (e : ℕ) (fs : List ℕ) (x : ℕ) : Type 0 where
   pub long : length fs ≡ 4096
+  pub small : Small fs
   pub right : Right code cost e fs
   pub next : at fs e ≡ x
 
@@ -81,6 +81,7 @@ module _ (code : List ℕ) (k : Checked code) where
   none-done cost fs long blank =
       record {
         long = long;
+        small = record { below = λ i. omega (arith, blank i) };
         right = λ q h. absurd (true≢false (sym (subst (λ (is : List ℕ). among q is ≡ true) none h)));
         next = blank (place code count);
       }
@@ -143,27 +144,30 @@ module _ (code : List ℕ) (k : Checked code) where
         in-list = omega (arith, in-code, k .short, f .long)
 
         -- it is small if every cost is
-        pub small : ((i : ℕ) → cost i ≤ 70000) → next-figure cost fs < 2 ^ 29
-        small h = omega (arith, is-right, largest-within cost (successorsAt code) 70000 h (length code) here, k .short)
+        is-small : ((i : ℕ) → cost i ≤ 70000) → next-figure cost fs < 2 ^ 29
+        is-small h = omega (arith, is-right, largest-within cost (successorsAt code) 70000 h (length code) here, k .short)
 
-        one-done : (y : ℕ) → y ≡ next-figure cost fs → Done code cost (place code m) (set fs here y) y
-        one-done y g =
+        one-done : ((i : ℕ) → cost i ≤ 70000) → (y : ℕ) → y ≡ next-figure cost fs → Done code cost (place code m) (set fs here y) y
+        one-done h y g =
             subst (λ (q : ℕ). Done code cost q (set fs here y) y) e
             (record {
               long = rw length-set (f .long);
+              small = record {
+                below = after-set (λ _ z. z < 2 ^ 29) fs here y 0 (λ q _. f .small .below q) (omega (arith, g, is-small h)) (f .small .below here);
+              };
               right = right-set l n code (k .passes) here is-start all-here cost fs
                   (subst (λ (q : ℕ). Right code cost q fs) done-before (f .right)) y (g ∙ is-right) in-list;
               next = getD-set-same fs here y 0 in-list;
             })
 
-      pub pass-on : (y z : ℕ) → y ≡ next-figure (stepsAt code) steps → z ≡ next-figure (placesAt code) places
+      pub pass-on : ((i : ℕ) → byte code i < 256) → (y z : ℕ) → y ≡ next-figure (stepsAt code) steps → z ≡ next-figure (placesAt code) places
           → Pass code (set steps here y) (set places here z) y z m
-      pass-on y z f g =
+      pass-on bytes y z f g =
           record {
             within = omega arith;
             ahead = subst (λ (q : ℕ). all (aheadAt code) (from code q) ≡ true) e all-here;
-            steps-done = one-done (stepsAt code) steps s (d .steps-done) y f;
-            places-done = one-done (placesAt code) places p (d .places-done) z g;
+            steps-done = one-done (stepsAt code) steps s (d .steps-done) (steps-small code bytes) y f;
+            places-done = one-done (placesAt code) places p (d .places-done) (places-small code bytes) z g;
           }
 
   -- ── at last all are done ──

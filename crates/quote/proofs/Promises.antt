@@ -1,8 +1,8 @@
 -- What a quote promises: its figures are the largest of any path, each reached by one, and no run of that code uses more.
 use mathlib.Core.Bool.{Bool, true, false, true≢false, cond}
 use mathlib.Core.List.{List, []}
-use mathlib.Core.Path.{_≡_, refl, sym, ap, _∙_, subst}
-use Prim.Native.Nat.{ℕ, _+_, _-_, _≤_, _<_}
+use mathlib.Core.Path.{_≡_, refl, sym, ap, subst}
+use Prim.Native.Nat.{ℕ, _+_, _≤_}
 use native.Mathlib.Omega.{arith}
 use lib.Dec.{eqb}
 use lib.ListN.{length}
@@ -14,10 +14,10 @@ use Rattle.model.specs.Decoding.{fetch, after}
 use Rattle.model.specs.Running.{runs, startControl, startStore}
 use Rattle.model.specs.Inputs.{inputSlots}
 use Rattle.formulas.specs.Lists.{among}
-use Rattle.code_check.specs.Sweep.{starts, all, codeOk}
+use Rattle.code_check.specs.Sweep.{starts, all}
 use Rattle.code_check.proofs.Starts.{from}
 use Rattle.noninterference.proofs.Starts.{all-among}
-use Rattle.script_file.specs.Sections.{header, codeBytes}
+use Rattle.script_file.specs.Sections.{codeBytes}
 use Rattle.script_file.specs.Checks.{refusal}
 use Rattle.script_file.specs.Program.{fileInputs, fileProgram, fileAccount, fileRun}
 use Rattle.quote.specs.Paths.{Path, pathCost, largest}
@@ -92,8 +92,11 @@ module _ (code : List ℕ) (k : Checked code) (a : allAhead code ≡ true) where
 
     onward-most : (i j : ℕ) → Start i → among j (successorsAt code i) ≡ true → cost i + most-from j ≤ most-from i
     onward-most i j h g =
-        omega (arith, unfolded cost (successorsAt code) (length code) Start all-forward (length code) i h (omega arith),
-        most-above most-from (successorsAt code i) j g)
+        omega (
+          arith,
+          unfolded cost (successorsAt code) (length code) Start all-forward (length code) i h (omega arith),
+          most-above most-from (successorsAt code i) j g,
+        )
 
   bounds : Bounds (nodeAt code) Start (most-from (stepsAt code)) (most-from (placesAt code))
   bounds =

@@ -1,10 +1,10 @@
 -- No run uses more than its code's quote, whatever it is run with.
-use mathlib.Core.Bool.{true, false, true≢false}
-use mathlib.Core.List.{List, [], _∷_}
-use mathlib.Core.Path.{_≡_, refl, sym, ap, subst}
+use mathlib.Core.Bool.{true}
+use mathlib.Core.List.{[]}
+use mathlib.Core.Path.{_≡_, refl}
 use Prim.Native.Nat.{ℕ, zero, suc, _+_, _-_, _≤_}
 use native.Mathlib.Omega.{arith}
-use Rattle.model.specs.State.{Control, Store, Program, Outcome, withSteps}
+use Rattle.model.specs.State.{Control, Store, Program, withSteps}
 use Rattle.model.specs.declared.Account.{Account}
 use Rattle.model.specs.Effects.{Next, go, stop}
 use Rattle.model.specs.Running.{step, resume, pay, run, runs}

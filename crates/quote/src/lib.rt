@@ -11,9 +11,8 @@ ghost use Rattle.model.specs.Decoding.{known, instrs, after};
 ghost use Rattle.code_check.specs.Sweep.{starts};
 ghost use Rattle.script_file.specs.Sections.{header};
 ghost use Rattle.script_file.specs.Checks.{refusal};
-ghost use Rattle.quote.specs.Paths.{most};
 ghost use Rattle.quote.specs.Quoting.{node, codeQuote, quoting};
-ghost use Rattle.quote.specs.Passes.{put, ownFigures, at, Checked};
+ghost use Rattle.quote.specs.Passes.{put, at, Small, Behind, weightFrom, Checked};
 
 // The largest steps and the largest places, each by itself.
 pub struct Figures {
@@ -31,47 +30,7 @@ pub enum Quote {
 // No code is longer.
 const CODE: usize = 4096;
 
-// ---- one instruction: its opcode, and its place
-
-// Check 11: no TRY, and no target that is not ahead.
-fn ahead(code: &[u8], op: u8, i: usize) -> bool
-    requires { ⌜ (i < 2 ^ 16) × (known op ≡ true) ⌝ }
-    ensures { λ r. ⌜ r ≡ node i (after (now (code .entry)) i) (getD (instrs (now (code .entry)) (i + 1)) op End) .ahead ⌝ }
-{
-    match op {
-        0x0A => i < decode::target_at(code, i + 1),
-        0x0B => i < decode::target_at(code, i + 1),
-        0x19 => i < decode::target_at(code, i + 1),
-        0x1A => false,
-        _ => true,
-    }
-}
-
-// What it costs by itself.
-fn cost(code: &[u8], op: u8, i: usize) -> Figures
-    requires { ⌜ (i < 2 ^ 16) × (known op ≡ true) ⌝ }
-    ensures { λ r. ⌜ r ≡ ownFigures (node i (after (now (code .entry)) i) (getD (instrs (now (code .entry)) (i + 1)) op End)) ⌝ }
-{
-    let at = i + 1;
-    match op {
-        0x13 => Figures {
-            steps: 1,
-            places: 1,
-        },
-        0x16 => Figures {
-            steps: 1,
-            places: 1,
-        },
-        0x19 => Figures {
-            steps: 1 + decode::u16_at(code, at + 2) as u32,
-            places: decode::byte_at(code, at + 4) as u32 + 1,
-        },
-        _ => Figures {
-            steps: 1,
-            places: 0,
-        },
-    }
-}
+// ---- one instruction
 
 fn larger(a: u32, b: u32) -> u32
     ensures { λ r. ⌜ r ≡ max a b ⌝ }
@@ -84,7 +43,7 @@ fn larger(a: u32, b: u32) -> u32
 
 // Behind the last stands 0.
 fn found(figures: &[u32], i: usize) -> u32
-    ensures { λ r. ⌜ r ≡ getD (now (figures .entry)) i 0 ⌝ }
+    ensures { λ r. ⌜ r ≡ at (now (figures .entry)) i ⌝ }
 {
     if i < figures.len() {
         return figures[i];
@@ -92,17 +51,73 @@ fn found(figures: &[u32], i: usize) -> u32
     0
 }
 
-// The largest of its successors, by the figure of the instruction behind it, `next`, and those that stand in `figures`.
-fn onward(code: &[u8], op: u8, i: usize, next: u32, figures: &[u32]) -> u32
-    requires { ⌜ (i < 2 ^ 16) × (known op ≡ true) × (getD (now figures) (after (now code) i) 0 ≡ next) ⌝ }
-    ensures { λ r. ⌜ r ≡ most (at (now (figures .entry))) (node i (after (now (code .entry)) i) (getD (instrs (now (code .entry)) (i + 1)) op End) .successors) ⌝ }
+// What an instruction weighs, with what may follow it.
+struct Weight {
+    // Check 11 does not apply to it: it is no TRY, and its target is ahead.
+    ahead: bool,
+    steps: u32,
+    places: u32,
+}
+
+// Weighs the instruction with opcode `op` at `i`, by the figures of the instruction behind it, `next`, and those that stand
+// at the later places.
+fn weigh(code: &[u8], op: u8, i: usize, next: Figures, steps: &[u32], places: &[u32]) -> Weight
+    requires { ⌜ (i < 2 ^ 16) × (known op ≡ true) × Behind next (now steps) (now places) (after (now code) i) × Small (now steps) × Small (now places) ⌝ }
+    ensures { λ r. ⌜ r ≡ weightFrom (at (now (steps .entry))) (at (now (places .entry))) (node i (after (now (code .entry)) i) (getD (instrs (now (code .entry)) (i + 1)) op End)) ⌝ }
 {
+    let operands = i + 1;
     match op {
-        0x00 => 0,
-        0x0A => found(figures, decode::target_at(code, i + 1)),
-        0x0B => larger(found(figures, decode::target_at(code, i + 1)), next),
-        0x1C => 0,
-        _ => next,
+        0x00 => Weight {
+            ahead: true,
+            steps: 1,
+            places: 0,
+        },
+        0x0A => {
+            let target = decode::target_at(code, operands);
+            Weight {
+                ahead: i < target,
+                steps: 1 + found(steps, target),
+                places: found(places, target),
+            }
+        }
+        0x0B => {
+            let target = decode::target_at(code, operands);
+            Weight {
+                ahead: i < target,
+                steps: 1 + larger(found(steps, target), next.steps),
+                places: larger(found(places, target), next.places),
+            }
+        }
+        0x13 => Weight {
+            ahead: true,
+            steps: 1 + next.steps,
+            places: 1 + next.places,
+        },
+        0x16 => Weight {
+            ahead: true,
+            steps: 1 + next.steps,
+            places: 1 + next.places,
+        },
+        0x19 => Weight {
+            ahead: i < decode::target_at(code, operands),
+            steps: 1 + decode::u16_at(code, operands + 2) as u32 + next.steps,
+            places: decode::byte_at(code, operands + 4) as u32 + 1 + next.places,
+        },
+        0x1A => Weight {
+            ahead: false,
+            steps: 1 + next.steps,
+            places: next.places,
+        },
+        0x1C => Weight {
+            ahead: true,
+            steps: 1,
+            places: 0,
+        },
+        _ => Weight {
+            ahead: true,
+            steps: 1 + next.steps,
+            places: next.places,
+        },
     }
 }
 
@@ -131,26 +146,26 @@ fn quote_code(code: &[u8]) -> Quote
     let mut list = [0u16; CODE];
     let mut steps = [0u32; CODE];
     let mut places = [0u32; CODE];
-    let mut most_steps: u32 = 0;
-    let mut most_places: u32 = 0;
+    let mut next = Figures {
+        steps: 0,
+        places: 0,
+    };
     let mut left = list_starts(code, &mut list);
     while 0 < left {
         left -= 1;
         let i = list[left] as usize;
-        let op = code[i];
-        if !ahead(code, op, i) {
+        let here = weigh(code, code[i], i, next, &steps, &places);
+        if !here.ahead {
             return Quote::Refused(11);
         }
-        let own = cost(code, op, i);
-        most_steps = own.steps + onward(code, op, i, most_steps, &steps);
-        most_places = own.places + onward(code, op, i, most_places, &places);
-        steps[i] = most_steps;
-        places[i] = most_places;
+        next = Figures {
+            steps: here.steps,
+            places: here.places,
+        };
+        steps[i] = here.steps;
+        places[i] = here.places;
     }
-    Quote::Quoted(Figures {
-        steps: most_steps,
-        places: most_places,
-    })
+    Quote::Quoted(next)
 }
 
 // ---- the file

@@ -1,7 +1,7 @@
 -- `quote::list_starts` meets its contract: what is left of the sweep makes the rest of the list. Assumes nothing.
 use mathlib.Core.List.{List, _∷_}
 use mathlib.Core.Path.{_≡_, refl, sym, ap, _∙_}
-use Prim.Native.Nat.{ℕ, suc, _+_, _-_, _≤_, _<_}
+use Prim.Native.Nat.{ℕ, _+_, _-_, _≤_, _<_}
 use native.Mathlib.Omega.{arith}
 use lib.ListN.{length, length-set}
 use Rattle.decode.proofs.Sizes.{size-short}
@@ -64,11 +64,12 @@ loop-again : tie.Need-loop-again Inv-loop μ-loop
 loop-again c =
     let h : tie.At-loop Inv-loop μ-loop = search in
     let s : tie.After-size-of Inv-loop μ-loop = search in
-    let inv = h .loop .inv in
-    (rw length-set (inv .0),
-    omega (arith, inv .1, some s),
-    omega (arith, inv .2, ap length (step s)),
-    inv .3 ∙ ap (λ (is : List ℕ). put (h .loop .n) is (h .loop .list)) (step s))
+    let inv = h .loop .inv in (
+      rw length-set (inv .0),
+      omega (arith, inv .1, some s),
+      omega (arith, inv .2, ap length (step s)),
+      inv .3 ∙ ap (λ (is : List ℕ). put (h .loop .n) is (h .loop .list)) (step s),
+    )
 
 returns : tie.Need-returns Inv-loop μ-loop
 unfolding starts
