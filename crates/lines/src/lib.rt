@@ -122,7 +122,7 @@ pub fn write_line(view: &[u8], out: &mut [u8]) -> usize
     end + 1
 }
 
-fn write_bytes(bytes: &[u8], out: &mut [u8])
+pub fn write_bytes(bytes: &[u8], out: &mut [u8])
     requires { ⌜ length (now bytes) ≤ length (now out) ⌝ }
     ensures { λ _. ⌜ now (out .exit) ≡ over (now (bytes .entry)) (now (out .entry)) ⌝ }
 {

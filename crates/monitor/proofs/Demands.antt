@@ -1,5 +1,5 @@
 -- The three demands on a read of a plain file, as the open calls' contracts give them.
-use mathlib.Core.List.{List, [], _∷_, _++_}
+use mathlib.Core.List.{List, _++_}
 use mathlib.Core.Logic.{_⊎_, inl, inr}
 use mathlib.Core.Path.{_≡_, sym, subst₂}
 use Prim.Native.Nat.{ℕ, _+_, _-_, _≤_, _<_}
@@ -12,10 +12,9 @@ use Rattle.model.specs.declared.Ending.the-variants.{Spent}
 use Rattle.model.proofs.Costs.{Cost}
 use Rattle.model.proofs.Bounds.{stepsOf, placesOf}
 use Rattle.script_file.specs.Sections.{header, labelAt}
-use Rattle.script_file.specs.Checks.{passes1, passes2, passes3, passes4, passes5, passes6, passes7, refusal}
+use Rattle.script_file.specs.Checks.{refusal}
 use Rattle.script_file.specs.Program.{fileInputs, fileProgram, fileAccount, fileRun}
-use Rattle.script_file.proofs.Tests.{lowest-most}
-use Rattle.script_file.proofs.Answers.{within-limits}
+use Rattle.script_file.proofs.Answers.{refusal-most, within-limits}
 use Rattle.view.specs.Layout.{recordsAt, viewLength}
 use Rattle.view.specs.Reading.{Reading, fileView, reading}
 use Rattle.view.specs.declared.Answer.{Answer}
@@ -46,10 +45,6 @@ pub record IsViewed (bs : List ℕ) (i : ℕ) (b : List ℕ) (q : Reading) : Typ
   pub places-taken : fileRun bs .account .next ≡ header bs .records .count + placesOf (filePayments bs)
   pub places-within : fileRun bs .account .next ≤ header bs .places
   pub shown : q ≡ record { answer = Viewed (length (fileView bs i)); buffer = fileView bs i ++ drop (length (fileView bs i)) b }
-
-refusal-most : (bs : List ℕ) → refusal bs ≤ 7
-unfolding refusal
-refusal-most bs = lowest-most 0 (passes1 bs ∷ passes2 bs ∷ passes3 bs ∷ passes4 bs ∷ passes5 bs ∷ passes6 bs ∷ passes7 bs ∷ [])
 
 numbers : (bs : List ℕ) → Numbers FileRefusal (refusal bs)
 numbers bs =

@@ -1,12 +1,13 @@
 -- What a quote promises: its figures are the largest of any path, each reached by one, and no run of that code uses more.
 use mathlib.Core.Bool.{Bool, true, false, true≢false, cond}
 use mathlib.Core.List.{List, []}
+use mathlib.Core.Logic.{_⊎_, inl, inr}
 use mathlib.Core.Path.{_≡_, refl, sym, ap, subst}
 use Prim.Native.Nat.{ℕ, _+_, _≤_}
 use native.Mathlib.Omega.{arith}
 use lib.Dec.{eqb}
 use lib.ListN.{length}
-use borrow.Author.Tests.{eqb-true}
+use borrow.Author.Tests.{eqb-true, eqb-false}
 use Rattle.model.specs.State.{Control, Store, Program}
 use Rattle.model.specs.declared.Account.{Account}
 use Rattle.model.specs.declared.Instr.{Instr}
@@ -20,6 +21,7 @@ use Rattle.noninterference.proofs.Starts.{all-among}
 use Rattle.script_file.specs.Sections.{codeBytes}
 use Rattle.script_file.specs.Checks.{refusal}
 use Rattle.script_file.specs.Program.{fileInputs, fileProgram, fileAccount, fileRun}
+use Rattle.script_file.proofs.Answers.{refusal-most}
 use Rattle.quote.specs.Paths.{Path, pathCost, largest}
 use Rattle.quote.specs.Quoting.{Node, node, nodeAt, stepsAt, placesAt, successorsAt, aheadAt, allAhead, figuresFrom, codeQuote, quoting}
 use Rattle.quote.specs.Passes.{Checked}
@@ -130,6 +132,24 @@ isQuoted (Quoted f) = true
 abbrev figuresIn : Figures → Quote → Figures
 figuresIn d (Refused n) = d
 figuresIn d (Quoted f) = f
+
+abbrev numberIn : Quote → ℕ
+numberIn (Refused n) = n
+numberIn (Quoted f) = 0
+
+-- A file that gets no quote is refused with a number of checks 1 to 7, or with 11.
+pub refused-with : (bs : List ℕ) (n : ℕ) → quoting bs ≡ Refused n → ((1 ≤ n) × (n ≤ 7)) ⊎ (n ≡ 11)
+unfolding quoting codeQuote
+refused-with bs n q = file (eqb (refusal bs) 0) refl (allAhead (codeBytes bs)) q
+  where
+    file : (s : Bool) → eqb (refusal bs) 0 ≡ s → (t : Bool)
+        → cond s (cond t (Quoted (figuresFrom (codeBytes bs) 0)) (Refused 11)) (Refused (refusal bs)) ≡ Refused n → ((1 ≤ n) × (n ≤ 7)) ⊎ (n ≡ 11)
+    file true e true h = absurd (true≢false (ap isQuoted h))
+    file true e false h = inr (sym (ap numberIn h))
+    file false e t h =
+        let some = eqb-false (refusal bs) 0 e in
+        let same = ap numberIn h in
+        inl (omega (arith, some, same), omega (arith, same, refusal-most bs))
 
 -- what a file that gets a quote has passed
 pub record Passed (bs : List ℕ) (f : Figures) : Type 0 where

@@ -14,7 +14,7 @@ use Rattle.script_file.specs.declared.Refusal.{Refusal}
 use Rattle.script_file.specs.declared.Refusal.the-variants.{Size, Counts, Offsets, Labels, Start, Records, Code}
 use Rattle.script_file.specs.declared.Loaded.{Loaded}
 use Rattle.script_file.specs.declared.Loaded.the-variants.{Refused, File}
-use Rattle.script_file.proofs.Tests.{lowest-each}
+use Rattle.script_file.proofs.Tests.{lowest-each, lowest-most}
 use Rattle.script_file.proofs.Limits.{Counted, counted, Placed, placed}
 use Rattle.file_sections.specs.Sections.{orNone}
 use Rattle.file_sections.specs.Words.{labelWords}
@@ -61,6 +61,10 @@ file-header bs h e = let same : File h ≡ File (header bs) = e ∙ ap (λ (n : 
 
 abbrev pub checks : List ℕ → List Bool
 checks bs = passes1 bs ∷ passes2 bs ∷ passes3 bs ∷ passes4 bs ∷ passes5 bs ∷ passes6 bs ∷ passes7 bs ∷ []
+
+pub refusal-most : (bs : List ℕ) → refusal bs ≤ 7
+unfolding refusal
+refusal-most bs = lowest-most 0 (checks bs)
 
 -- A file that is not refused passes each check.
 pub record Accepted (bs : List ℕ) : Type 0 where

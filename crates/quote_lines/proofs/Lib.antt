@@ -1,0 +1,2 @@
+-- Numbers in decimal, and the parts of the line.
+pub mod Decimal

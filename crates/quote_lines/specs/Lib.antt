@@ -1,0 +1,2 @@
+-- What is printed of a quote.
+pub mod Lines
