@@ -3,7 +3,7 @@
 use reference::day_script::{DayScript, JobEntry};
 use reference::limits::{view, MAX_CODE, MAX_DAY, MAX_JOBS, MAX_PLACES, MAX_RECORDS, MAX_VIEW};
 use reference::opcode::*;
-use reference::script::{Clauses, Code, Input, Script};
+use reference::script::{Clauses, Code, Input, Script, Target};
 
 /// What a figure is for.
 #[derive(Clone, Copy, Debug, PartialEq, Eq)]
@@ -12,14 +12,20 @@ pub enum Unit {
     Step,
     /// A whole read.
     Read,
+    /// A whole quote.
+    Quote,
 }
 
-/// What a load is read as.
+/// What a load is read as, or whether it is quoted.
 #[derive(Clone, Copy, Debug, PartialEq, Eq)]
 pub enum Kind {
     Plain,
     Day,
+    Quote,
 }
+
+/// The view that quotes are set beside: they are to take less time.
+pub const VIEW: &str = "view of 256 records";
 
 pub struct Load {
     pub name: &'static str,
@@ -35,13 +41,14 @@ impl Load {
         match self.kind {
             Kind::Plain => vec![0; MAX_VIEW],
             Kind::Day => vec![0; MAX_DAY],
+            Kind::Quote => Vec::new(),
         }
     }
 
     /// How many units one read is.
     pub fn units(&self) -> u32 {
         match self.unit {
-            Unit::Read => 1,
+            Unit::Read | Unit::Quote => 1,
             Unit::Step => self.steps(),
         }
     }
@@ -52,6 +59,7 @@ impl Load {
         let read = match self.kind {
             Kind::Plain => reference::read,
             Kind::Day => reference::read_day,
+            Kind::Quote => unreachable!("a quote is no load by step"),
         };
         let length = read(&self.file, self.reader, &mut buffer).expect("loads by step are valid");
         let field = |at: usize| u16::from_le_bytes([buffer[at], buffer[at + 1]]);
@@ -69,6 +77,13 @@ pub fn loads() -> Vec<Load> {
         |name, script: Script, unit| Load { name, kind: Kind::Plain, file: script.bytes(), reader: 1, unit };
     let by_step = |name, script| plain(name, script, Unit::Step);
     let by_read = |name, script| plain(name, script, Unit::Read);
+    let quoted = |name, script: Script| Load {
+        name,
+        kind: Kind::Quote,
+        file: script.bytes(),
+        reader: 0,
+        unit: Unit::Quote,
+    };
     vec![
         by_step("arithmetic loop", endless(arithmetic)),
         by_step("record loop", endless(records)),
@@ -76,9 +91,28 @@ pub fn loads() -> Vec<Load> {
         by_step("nested blocks", nested()),
         by_step("throw/catch loop", endless(throw)),
         by_read("refused late", refused_late()),
-        by_read("view of 256 records", full_view()),
+        by_read(VIEW, full_view()),
         Load { name: "day of 16 jobs", kind: Kind::Day, file: day().bytes(), reader: 1, unit: Unit::Step },
+        quoted("quote of 4,095 CURs", filled(|code, _| _ = code.op(CUR))),
+        quoted("quote of 1,365 IFZs", filled(|code, last| _ = code.ifz(last))),
+        quoted("quote of 682 BLOCKs", filled(|code, last| _ = code.block(last, u16::MAX, u8::MAX))),
     ]
+}
+
+/// As much of what is written as there is room for, to be quoted, and an END.
+fn filled(write: fn(&mut Code, Target)) -> Script {
+    let mut code = Code::new();
+    let last = code.target();
+    write(&mut code, last);
+    let length = code.len();
+    while code.len() + length < MAX_CODE {
+        write(&mut code, last);
+    }
+    while code.len() < MAX_CODE - 1 {
+        code.op(CUR);
+    }
+    code.place(last).end();
+    script(&code)
 }
 
 /// Sixteen jobs in turn, the arithmetic loop and the record loop, each until it is
@@ -239,6 +273,21 @@ mod tests {
     #[test]
     fn reads_end_as_they_are_named() {
         assert_eq!(read(&load("refused late")).0, Err(7));
-        assert_eq!(read(&load("view of 256 records")).0, Ok(MAX_VIEW));
+        assert_eq!(read(&load(VIEW)).0, Ok(MAX_VIEW));
+    }
+
+    #[test]
+    fn quotes_are_of_as_much_code_as_there_may_be() {
+        // Three CURs fill up what BLOCKs leave free.
+        for (name, steps, places) in [
+            ("quote of 4,095 CURs", 4096, 0),
+            ("quote of 1,365 IFZs", 1366, 0),
+            ("quote of 682 BLOCKs", 682 * 65_536 + 4, 682 * 256),
+        ] {
+            let load = load(name);
+            assert_eq!(reference::quote(&load.file), Ok(reference::Quote { steps, places }), "{name}");
+            let code = reference::file::File::parse(&load.file).expect("a valid file").parts.code.len();
+            assert_eq!(code, MAX_CODE, "{name}");
+        }
     }
 }

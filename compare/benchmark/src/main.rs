@@ -1,10 +1,11 @@
 //! Times every load on every implementation, in turns, and keeps the best; then
-//! measures the stack that each takes.
+//! measures the stack that each takes. A last line for each implementation has the
+//! slowest quote beside a view.
 
 mod loads;
 mod stack;
 
-use loads::{loads, Kind, Load, Unit};
+use loads::{loads, Kind, Load, Unit, VIEW};
 use std::hint::black_box;
 use std::time::{Duration, Instant};
 
@@ -14,6 +15,8 @@ struct Implementation {
     name: &'static str,
     read: Read,
     read_day: Read,
+    /// In the form of a read, so that all are timed alike.
+    quote: Read,
 }
 
 impl Implementation {
@@ -21,14 +24,25 @@ impl Implementation {
         match load.kind {
             Kind::Plain => self.read,
             Kind::Day => self.read_day,
+            Kind::Quote => self.quote,
         }
     }
 }
 
 const IMPLEMENTATIONS: &[Implementation] = &[
-    Implementation { name: "reference", read: reference::read, read_day: reference::read_day },
+    Implementation {
+        name: "reference",
+        read: reference::read,
+        read_day: reference::read_day,
+        quote: |file, _, _| reference::quote(file).map(|quote| black_box(quote).steps as usize),
+    },
     #[cfg(feature = "proved")]
-    Implementation { name: "proved", read: nechwalu::read, read_day: nechwalu::read_day },
+    Implementation {
+        name: "proved",
+        read: nechwalu::read,
+        read_day: nechwalu::read_day,
+        quote: |file, _, _| nechwalu::quote(file).map(|quote| black_box(quote).steps as usize),
+    },
 ];
 
 const ROUNDS: usize = 200;
@@ -40,6 +54,7 @@ const PLACES: usize = 40;
 
 fn main() {
     println!("best of {ROUNDS} rounds; stack in bytes touched");
+    let mut beside = Vec::new();
     for load in loads() {
         let best = best_times(&load);
         let figures: Vec<String> = IMPLEMENTATIONS
@@ -53,12 +68,36 @@ fn main() {
         let unit = match load.unit {
             Unit::Step => "step",
             Unit::Read => "read",
+            Unit::Quote => "quote",
         };
         let ratio = match best[..] {
             [reference, proved] => format!("; ratio {:.2}", proved / reference),
             _ => String::new(),
         };
         println!("{:<20} per {unit}: {}{ratio}", load.name, figures.join("; "));
+        if load.kind == Kind::Quote || load.name == VIEW {
+            beside.push((load, best));
+        }
+    }
+    print_beside(&beside);
+}
+
+/// For each implementation its slowest quote beside the view of the same run.
+fn print_beside(times: &[(Load, Vec<f64>)]) {
+    for (at, implementation) in IMPLEMENTATIONS.iter().enumerate() {
+        let view = times.iter().find(|(load, _)| load.name == VIEW);
+        let slowest = times
+            .iter()
+            .filter(|(load, _)| load.kind == Kind::Quote)
+            .max_by(|(_, one), (_, other)| one[at].total_cmp(&other[at]));
+        let (Some((_, of_view)), Some((load, of_quote))) = (view, slowest) else { return };
+        let (of_view, of_quote) = (of_view[at], of_quote[at]);
+        println!(
+            "{}: {} {of_quote:.0} ns, {VIEW} {of_view:.0} ns; {:.3} of it",
+            implementation.name,
+            load.name,
+            of_quote / of_view
+        );
     }
 }
 

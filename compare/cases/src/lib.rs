@@ -11,6 +11,7 @@ pub mod halves;
 pub mod kept;
 pub mod order;
 pub mod paper;
+pub mod quotes;
 pub mod refusals;
 pub mod values;
 

@@ -1,8 +1,9 @@
 //! The corpus: hand-worked files, pairs that tell mutants from the original,
 //! and a choice of generated files. It is the same every time. That of days is
-//! in [`days`].
+//! in [`days`], that of files to be quoted in [`quotes`].
 
 pub mod days;
+pub mod quotes;
 
 use generator::random::Random;
 use generator::{alike, exhaust, invalid};
@@ -34,10 +35,8 @@ const EXAMPLES: [(&str, &[u8]); 3] = [
 
 /// All files, alike pairs side by side.
 pub fn entries() -> Vec<Entry> {
-    let examples =
-        EXAMPLES.iter().map(|&(name, file)| Entry { name: format!("example {name}"), file: file.to_vec() });
     let hand_worked = cases::all().into_iter().map(|case| Entry { name: case.name, file: case.file });
-    let mut entries: Vec<Entry> = examples.chain(hand_worked).collect();
+    let mut entries: Vec<Entry> = example_entries().chain(hand_worked).collect();
     for (number, (_, pair)) in by_hand::pairs().into_iter().enumerate() {
         entries.extend(sides(&format!("by hand {number}"), pair));
     }
@@ -46,6 +45,10 @@ pub fn entries() -> Vec<Entry> {
     entries.extend(exhausted_files());
     entries.extend(invalid_files());
     entries
+}
+
+fn example_entries() -> impl Iterator<Item = Entry> {
+    EXAMPLES.iter().map(|&(name, file)| Entry { name: format!("example {name}"), file: file.to_vec() })
 }
 
 fn sides(name: &str, pair: alike::Pair) -> [Entry; 2] {

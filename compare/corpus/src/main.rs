@@ -1,8 +1,8 @@
 //! Writes the corpus into a folder: `batch.bin` (the files), `expected.txt`
 //! (what is to be printed for them) and `index.txt` (their names). With `--days`,
-//! the corpus of days.
+//! the corpus of days; with `--quotes`, that of files to be quoted.
 
-use corpus::{days, Entry};
+use corpus::{days, quotes, Entry};
 use std::path::Path;
 use std::process::ExitCode;
 use std::{env, fs, io};
@@ -11,11 +11,14 @@ fn main() -> ExitCode {
     let arguments: Vec<String> = env::args().skip(1).collect();
     let (folder, outcome) = match arguments.iter().map(String::as_str).collect::<Vec<_>>()[..] {
         ["--days", folder] => (folder, write(Path::new(folder), "days", days::entries(), days::expected)),
-        [folder] if folder != "--days" => {
+        ["--quotes", folder] => {
+            (folder, write(Path::new(folder), "files to be quoted", quotes::entries(), quotes::expected))
+        }
+        [folder] if !folder.starts_with("--") => {
             (folder, write(Path::new(folder), "files", corpus::entries(), corpus::expected))
         }
         _ => {
-            eprintln!("usage: corpus [--days] OUTDIR");
+            eprintln!("usage: corpus [--days | --quotes] OUTDIR");
             return ExitCode::FAILURE;
         }
     };

@@ -18,6 +18,7 @@ pub struct Comparison {
     pub pairs: u64,
     pub days: u64,
     pub day_pairs: u64,
+    pub quotes: u64,
     pub reads: u64,
     pub differences: u64,
 }
@@ -124,11 +125,22 @@ impl Comparison {
             return;
         }
         eprintln!("{name}: {what}; reader {reader}, buffer of {buffer} bytes");
-        for file in files {
-            let hex: String = file.iter().map(|byte| format!("{byte:02x}")).collect();
-            eprintln!("  {hex}");
+        files.iter().for_each(|file| print_hex(file));
+    }
+
+    /// A difference that has nothing to do with a reader or a buffer.
+    pub fn differ_in_quote(&mut self, name: &str, what: &str, file: &[u8]) {
+        self.differences += 1;
+        if self.differences <= DESCRIBED {
+            eprintln!("{name}: {what}");
+            print_hex(file);
         }
     }
+}
+
+fn print_hex(file: &[u8]) {
+    let hex: String = file.iter().map(|byte| format!("{byte:02x}")).collect();
+    eprintln!("  {hex}");
 }
 
 /// All labels, and some indices that are none.

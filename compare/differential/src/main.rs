@@ -1,19 +1,21 @@
 //! Runs the implementations on hand-worked and generated files and days and on
-//! alike pairs of them, and says how often they differ.
+//! alike pairs of them, has them quote files, and says how often they differ.
 
 mod compare;
+mod quotes;
 mod trial;
 
 use compare::Comparison;
 use generator::alike::{self, Pair};
 use generator::random::Random;
-use generator::{day_alike, days, exhaust};
+use generator::{day_alike, days, exhaust, forward};
 use mutants::{by_hand, day_by_hand};
 use reference::limits::header;
 use std::process::ExitCode;
 use trial::IMPLEMENTATIONS;
 
-const USAGE: &str = "usage: differential [--files N] [--pairs N] [--days N] [--day-pairs N] [--seed N]";
+const USAGE: &str =
+    "usage: differential [--files N] [--pairs N] [--days N] [--day-pairs N] [--quotes N] [--seed N]";
 
 /// Every so many files, one is also run with each smaller allotment.
 const EXHAUSTED: u64 = 500;
@@ -25,6 +27,7 @@ struct Bounds {
     pairs: u64,
     days: u64,
     day_pairs: u64,
+    quotes: u64,
     seed: u64,
 }
 
@@ -39,11 +42,13 @@ fn main() -> ExitCode {
     generated_pairs(&mut comparison, &bounds);
     by_hand_days(&mut comparison);
     generated_days(&mut comparison, &bounds);
+    quotes_by_hand(&mut comparison);
+    generated_quotes(&mut comparison, &bounds);
     let names: Vec<&str> = IMPLEMENTATIONS.iter().map(|implementation| implementation.name).collect();
-    let Comparison { files, pairs, days, day_pairs, reads, differences } = comparison;
+    let Comparison { files, pairs, days, day_pairs, quotes, reads, differences } = comparison;
     println!(
         "{}: {files} files, {pairs} alike pairs, {days} days, {day_pairs} alike pairs of days, \
-         {reads} reads, {differences} differences",
+         {quotes} quotes, {reads} reads, {differences} differences",
         names.join(" and ")
     );
     if differences == 0 {
@@ -54,7 +59,8 @@ fn main() -> ExitCode {
 }
 
 fn bounds(mut arguments: impl Iterator<Item = String>) -> Option<Bounds> {
-    let mut bounds = Bounds { files: 20_000, pairs: 5_000, days: 20_000, day_pairs: 5_000, seed: 0 };
+    let mut bounds =
+        Bounds { files: 20_000, pairs: 5_000, days: 20_000, day_pairs: 5_000, quotes: 20_000, seed: 0 };
     while let Some(name) = arguments.next() {
         let number = arguments.next()?.parse().ok()?;
         match name.as_str() {
@@ -62,6 +68,7 @@ fn bounds(mut arguments: impl Iterator<Item = String>) -> Option<Bounds> {
             "--pairs" => bounds.pairs = number,
             "--days" => bounds.days = number,
             "--day-pairs" => bounds.day_pairs = number,
+            "--quotes" => bounds.quotes = number,
             "--seed" => bounds.seed = number,
             _ => return None,
         }
@@ -137,5 +144,23 @@ fn generated_days(comparison: &mut Comparison, bounds: &Bounds) {
     }
     for seed in bounds.seed..bounds.seed + bounds.day_pairs {
         comparison.day_pair(&format!("pair of days of seed {seed}"), &day_alike::pair(seed));
+    }
+}
+
+fn quotes_by_hand(comparison: &mut Comparison) {
+    let mut random = Random::new(0);
+    for case in cases::quotes::all() {
+        comparison.expected_quote(&case.name, &case.file, case.expected);
+        comparison.quote(&case.name, &case.file, &mut random);
+    }
+    for case in cases::all() {
+        comparison.quote(&case.name, &case.file, &mut random);
+    }
+}
+
+fn generated_quotes(comparison: &mut Comparison, bounds: &Bounds) {
+    for seed in bounds.seed..bounds.seed + bounds.quotes {
+        let mut random = Random::new(!seed);
+        comparison.quote(&format!("file to be quoted, of seed {seed}"), &forward::any(seed), &mut random);
     }
 }

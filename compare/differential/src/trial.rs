@@ -1,21 +1,34 @@
 //! One call, watched: its answer, and every byte of the buffer and behind it.
 
 use reference::limits::{view, MAX_DAY, MAX_VIEW};
+use reference::Quote;
 
 pub type Read = fn(&[u8], usize, &mut [u8]) -> Result<usize, u8>;
+pub type Quoting = fn(&[u8]) -> Result<Quote, u8>;
 
 #[derive(Clone, Copy)]
 pub struct Implementation {
     pub name: &'static str,
     pub read: Read,
     pub read_day: Read,
+    pub quote: Quoting,
 }
 
 /// The reference first, and the proved library if it is linked.
 pub const IMPLEMENTATIONS: &[Implementation] = &[
-    Implementation { name: "reference", read: reference::read, read_day: reference::read_day },
+    Implementation {
+        name: "reference",
+        read: reference::read,
+        read_day: reference::read_day,
+        quote: reference::quote,
+    },
     #[cfg(feature = "proved")]
-    Implementation { name: "proved", read: nechwalu::read, read_day: nechwalu::read_day },
+    Implementation {
+        name: "proved",
+        read: nechwalu::read,
+        read_day: nechwalu::read_day,
+        quote: |file| nechwalu::quote(file).map(|quote| Quote { steps: quote.steps, places: quote.places }),
+    },
 ];
 
 /// What a file is read as.
@@ -123,7 +136,7 @@ mod tests {
     use super::*;
 
     fn offence_of(kind: Kind, read: Read) -> Option<&'static str> {
-        let wrong = Implementation { name: "wrong", read, read_day: read };
+        let wrong = Implementation { name: "wrong", read, read_day: read, quote: |_| Err(1) };
         Trial::new(kind, wrong, &[], 0, 200).offence()
     }
 

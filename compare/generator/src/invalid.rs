@@ -7,7 +7,12 @@ use reference::script::{Clauses, Input, Script};
 
 /// A file that is refused with `refusal`, 1 to 7.
 pub fn file(random: &mut Random, refusal: u8) -> Vec<u8> {
-    let mut script = crate::script(random);
+    let script = crate::script(random);
+    broken(random, script, refusal)
+}
+
+/// The valid `script`, broken so that it is refused with `refusal`.
+pub fn broken(random: &mut Random, mut script: Script, refusal: u8) -> Vec<u8> {
     match refusal {
         1 => wrong_size(random, script.bytes()),
         2 => wrong_count(random, script.bytes()),

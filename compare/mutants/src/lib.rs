@@ -1,7 +1,8 @@
 //! Mutants of the reference: the paper's rules but for one, each to be found
 //! out by generated pairs of alike files, or by a pair or a file worked by hand; and
 //! wrong loaders, to be found out by the load cases. The same for days, whose
-//! wrong loaders the hand-worked days find out.
+//! wrong loaders the hand-worked days find out; and wrong quotes, to be found out by
+//! generated files and by files worked by hand.
 
 pub mod by_hand;
 pub mod day_by_hand;
@@ -12,12 +13,17 @@ pub mod day_wrong;
 pub mod handlers;
 pub mod list;
 pub mod loader;
+pub mod quote_search;
+pub mod quoter;
 pub mod search;
 pub mod wrong;
 pub mod wrong_day_loaders;
 pub mod wrong_loaders;
+pub mod wrong_quotes;
 
 /// How many generated pairs are tried.
 pub const MOST_PAIRS: u64 = 20_000;
 /// How many generated pairs of days are tried.
 pub const MOST_DAY_PAIRS: u64 = 20_000;
+/// How many generated files are tried to be quoted.
+pub const MOST_QUOTES: u64 = 20_000;

@@ -94,7 +94,7 @@ pub struct Header {
 }
 
 impl Header {
-    fn of(file: &[u8]) -> Header {
+    pub fn of(file: &[u8]) -> Header {
         let byte = |at: usize| usize::from(file.get(at).copied().unwrap_or(0));
         let field = |at: usize| byte(at) + 256 * byte(at + 1);
         Header {
@@ -117,7 +117,8 @@ impl Loader {
         self.order.into_iter().find(|&number| self.applies(number, file, &header))
     }
 
-    fn applies(&self, number: u8, file: &[u8], header: &Header) -> bool {
+    /// Whether there is a reason for the refusal, whatever others there are.
+    pub fn applies(&self, number: u8, file: &[u8], header: &Header) -> bool {
         let holds = match number {
             1 => self.length.contains(&file.len()),
             2 => self.counts_hold(header),

@@ -1,11 +1,13 @@
 //! Says for each mutant after how many generated pairs it is found out, and by how
-//! many pairs, files or days written by hand. Fails if one is found by neither.
+//! many pairs, files or days written by hand; of wrong quotes, after how many generated
+//! files. Fails if one is found by neither.
 
-use cases::days;
+use cases::{days, quotes};
 use mutants::day_list::DAY_MUTANTS;
 use mutants::list::{Harm, MUTANTS};
 use mutants::wrong::Wrong;
-use mutants::{by_hand, day_by_hand, day_search, search, MOST_DAY_PAIRS, MOST_PAIRS};
+use mutants::{by_hand, day_by_hand, day_search, quote_search, search, wrong_quotes};
+use mutants::{MOST_DAY_PAIRS, MOST_PAIRS, MOST_QUOTES};
 use std::process::ExitCode;
 
 /// How many mutants there are, and how many of them were found out.
@@ -32,11 +34,15 @@ impl Tally {
 }
 
 fn main() -> ExitCode {
-    let (plain, of_days) = (plain_mutants(), day_mutants());
-    for (kind, tally) in [("mutants", &plain), ("mutants of days", &of_days)] {
+    let tallies = [
+        ("mutants", plain_mutants()),
+        ("mutants of days", day_mutants()),
+        ("mutants of quotes", quote_mutants()),
+    ];
+    for (kind, tally) in &tallies {
         println!("{} {kind}, {} found by chance, {} not found", tally.all, tally.by_chance, tally.unfound);
     }
-    let unfound = plain.unfound + of_days.unfound;
+    let unfound: u32 = tallies.iter().map(|(_, tally)| tally.unfound).sum();
     if unfound == 0 {
         ExitCode::SUCCESS
     } else {
@@ -73,6 +79,18 @@ fn day_mutants() -> Tally {
             Harm::Wrong => cases.iter().filter(|case| day_search::differs(mutant, &case.file)).count(),
         };
         tally.add(mutant.harm(), format!("{mutant:?}"), needed, told, mutant.says());
+    }
+    tally
+}
+
+/// A quote tells of nothing but the code, so that none of these leaks.
+fn quote_mutants() -> Tally {
+    let cases = quotes::all();
+    let mut tally = Tally::default();
+    for wrong in wrong_quotes::all() {
+        let needed = quote_search::files_needed(&wrong, MOST_QUOTES);
+        let told = cases.iter().filter(|case| quote_search::differs(&wrong, &case.file)).count();
+        tally.add(Harm::Wrong, wrong.name.into(), needed, told, wrong.says);
     }
     tally
 }

@@ -11,6 +11,8 @@
 //! A *day* is a file of up to 16 scripts, its jobs, that work on one set of records
 //! in turn. [`read_day`] runs them and writes a view for each.
 //!
+//! [`quote`] says before any run what a file's script can cost at most.
+//!
 //! The library is a static one, `libmonitor.a`. Build with the feature `proved`
 //! and with `NECHWALU_LIB` set to the absolute path of its directory.
 
@@ -41,6 +43,8 @@ extern "C" {
         buffer: *mut u8,
         buffer_len: usize,
     ) -> usize;
+
+    fn nechwalu_quote(file: *const u8, file_len: usize) -> u64;
 }
 
 /// Runs the script in `file` and writes what the label with index `reader`
@@ -150,6 +154,69 @@ pub fn read_day(file: &[u8], reader: usize, buffer: &mut [u8]) -> Result<usize, 
     let answer =
         unsafe { nechwalu_read_day(file.as_ptr(), file.len(), reader, buffer.as_mut_ptr(), buffer.len()) };
     length_or_refusal(answer)
+}
+
+/// What a script costs at most: see [`quote`].
+#[derive(Debug, Clone, Copy, PartialEq, Eq)]
+pub struct Quote {
+    /// The most steps along any path through the code, blocks paid in full.
+    pub steps: u32,
+    /// The most places along any path; those of the input records are not among them.
+    pub places: u32,
+}
+
+/// Works out what the script in `file`, a plain file, costs at most, without running it.
+///
+/// A path starts with the first instruction, goes both ways at IFZ, and stops at END or
+/// THROW. The quote has the largest steps and the largest places along any path, each by
+/// itself, so that the two may be of different paths. No run uses more, whatever the
+/// numbers in the input records are. The steps and places that the file allots do not
+/// matter.
+///
+/// # Errors
+///
+/// The number of the first reason to refuse, in this order:
+///
+/// - 1: the file is shorter than 16 bytes or longer than 65,535,
+/// - 2: a count in its header is outside its limits,
+/// - 3: the offsets in its header do not fit together, or not its length,
+/// - 4: a label is malformed,
+/// - 5: the starting label does not flow to the starting clearance,
+/// - 6: an input record is malformed,
+/// - 7: the code is malformed,
+/// - 11: somewhere in the code, be it where no path comes, there is a TRY, or a target
+///   that is not ahead of its instruction's own start.
+///
+/// # Example
+///
+/// ```
+/// // Two labels, no records, 14 bytes of code; at most 10 steps and 4 places.
+/// let mut file = Vec::new();
+/// for number in [2u16, 16, 0, 21, 14, 21, 10, 4] {
+///     file.extend(number.to_le_bytes());
+/// }
+/// file.extend([0, 0]); // the starting label: public
+/// file.extend([1, 0, 0]); // the clearance: everything secret
+/// file.extend([0x03, 0, 0x0b, 9, 0]); // GET 0, IFZ to the byte 9,
+/// file.extend([0x0c, 0x0c, 0x13, 0x00]); // CUR, CUR, SEAL, END,
+/// file.extend([0x0c, 0x0c, 0x0c, 0x0c, 0x00]); // and at 9: four times CUR, END
+///
+/// let quote = nechwalu::quote(&file).expect("every target is ahead, and there is no TRY");
+/// // The most steps if the IFZ jumps, and the most places if it does not.
+/// assert_eq!(quote, nechwalu::Quote { steps: 7, places: 1 });
+///
+/// file[24] = 0; // IFZ back to the start
+/// assert_eq!(nechwalu::quote(&file), Err(11));
+/// ```
+pub fn quote(file: &[u8]) -> Result<Quote, u8> {
+    // SAFETY: the pointer comes from a slice and goes with its length; the library reads
+    // within it and keeps nothing.
+    let answer = unsafe { nechwalu_quote(file.as_ptr(), file.len()) };
+    // A path has an instruction at least, so that no quote has 0 steps.
+    match (answer >> 32) as u32 {
+        0 => Err(answer as u8),
+        steps => Ok(Quote { steps, places: answer as u32 }),
+    }
 }
 
 fn length_or_refusal(answer: usize) -> Result<usize, u8> {

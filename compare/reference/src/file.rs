@@ -1,7 +1,7 @@
 //! The plain file: one script. The lowest refusal that applies is given.
 
 use crate::limits::{header, MAX_FILE};
-use crate::opcode;
+use crate::opcode::{self, Starts};
 use crate::parts::{places, short, steps_hold, Job, Parts, Refusal, Sections};
 
 /// A file whose header and labels are in order.
@@ -14,16 +14,19 @@ pub struct File<'a> {
 impl<'a> File<'a> {
     /// Checks 1 to 7.
     pub fn parse(bytes: &'a [u8]) -> Result<File<'a>, Refusal> {
+        File::parse_with_starts(bytes).map(|(file, _)| file)
+    }
+
+    /// [`File::parse`], and where the instructions start, which check 7 finds.
+    pub fn parse_with_starts(bytes: &'a [u8]) -> Result<(File<'a>, Starts), Refusal> {
         let file = File::parse_parts(bytes)?;
         let File { parts, job } = &file;
         if !job.label.flows_to(job.clearance) {
             return Err(Refusal::Start);
         }
         parts.check_records()?;
-        if !opcode::well_formed(parts.code, parts.labels().len(), parts.record_count()) {
-            return Err(Refusal::Code);
-        }
-        Ok(file)
+        let starts = opcode::starts(parts.code, parts.labels().len(), parts.record_count());
+        Ok((file, starts.ok_or(Refusal::Code)?))
     }
 
     /// Checks 1 to 4: what has to hold before a record's label can be looked up.

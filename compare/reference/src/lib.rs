@@ -1,9 +1,9 @@
 //! An interpreter for the station's labelled script machine.
 //!
 //! It is written from the machine's papers alone and shares nothing with the
-//! proved library, so that the two can be compared. [`read`] and [`read_day`] are
-//! the calls that matter; the rest is public for the programs next door, which
-//! generate files, print views and try wrong rules.
+//! proved library, so that the two can be compared. [`read`], [`read_day`] and
+//! [`quote()`] are the calls that matter; the rest is public for the programs next
+//! door, which generate files, print views and try wrong rules.
 
 pub mod batch;
 pub mod day;
@@ -17,6 +17,7 @@ pub mod machine;
 pub mod opcode;
 pub mod parts;
 pub mod print;
+pub mod quote;
 pub mod rules;
 pub mod run;
 pub mod script;
@@ -28,6 +29,7 @@ use day::Day;
 use day_rules::DayRules;
 use file::File;
 use parts::Refusal;
+pub use quote::Quote;
 use rules::{Paper, Rules};
 
 /// Runs the script in `file` and writes what the label with index `reader` may
@@ -66,4 +68,12 @@ pub fn read_day_by<R: DayRules>(
     let &reader = day.parts.labels().get(reader).ok_or(Refusal::Reader)?;
     let outcomes = jobs::run(&day, rules);
     jobs::write(&jobs::views(&day, &outcomes, reader, rules), buffer, rules)
+}
+
+/// The most steps and the most places that a path through the code of the plain file
+/// in `file` costs, whatever its numbers. Nothing is run. Gives the number, 1 to 7 or
+/// 11, of the reason to refuse if there is one: 11 for a target that is not ahead of
+/// its instruction, or a TRY, anywhere in the code.
+pub fn quote(file: &[u8]) -> Result<Quote, u8> {
+    quote::of_file(file).map_err(Refusal::number)
 }

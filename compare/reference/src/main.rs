@@ -1,6 +1,7 @@
 //! Reads a file from standard input and prints its view for each of its labels;
 //! with `--day`, a day, and for each of its labels the views of its jobs. With
 //! `--batch`, reads a batch of files, or days, and prints a line `.` behind each.
+//! With `--quote`, prints the quote of a file, or of each file of a batch: one line.
 
 use reference::limits::MAX_FILE;
 use reference::{batch, print};
@@ -14,7 +15,9 @@ fn main() -> ExitCode {
         ["--batch"] => print_batch(batch::lines),
         ["--day"] => print_file(print::day_lines),
         ["--day", "--batch"] => print_batch(batch::day_lines),
-        _ => Err(io::Error::other("usage: reference [--day] [--batch] < FILE")),
+        ["--quote"] => print_file(print::quote_line),
+        ["--quote", "--batch"] => print_batch(print::quote_line),
+        _ => Err(io::Error::other("usage: reference [--day | --quote] [--batch] < FILE")),
     };
     match outcome {
         Ok(()) => ExitCode::SUCCESS,

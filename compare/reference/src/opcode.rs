@@ -67,16 +67,47 @@ opcodes! {
     INPUT = 0x1D, operands 1, pops 0, pushes 1;
 }
 
+/// Where instructions start, a bit for each byte of the code.
+#[derive(Clone, Debug)]
+pub struct Starts([u64; MAX_CODE / 64]);
+
+impl Starts {
+    fn add(&mut self, at: usize) {
+        self.0[at / 64] |= 1 << (at % 64);
+    }
+
+    pub fn contains(&self, at: usize) -> bool {
+        self.0.get(at / 64).is_some_and(|word| word >> (at % 64) & 1 == 1)
+    }
+
+    /// All of them, the last one first.
+    pub fn from_the_back(&self) -> impl Iterator<Item = usize> + '_ {
+        self.0.iter().enumerate().rev().flat_map(|(index, &word)| {
+            let mut rest = word;
+            std::iter::from_fn(move || {
+                let bit = rest.checked_ilog2()?;
+                rest ^= 1 << bit;
+                Some(64 * index + bit as usize)
+            })
+        })
+    }
+}
+
 /// Whether `code` stands up to refusal 7: every instruction whole, its operands
 /// within limits, its targets starts of instructions, and the last one not
 /// running past the end.
 pub fn well_formed(code: &[u8], labels: usize, inputs: usize) -> bool {
-    let mut starts = [0u64; MAX_CODE / 64];
+    starts(code, labels, inputs).is_some()
+}
+
+/// Where the instructions of `code` start, if it is well formed.
+pub fn starts(code: &[u8], labels: usize, inputs: usize) -> Option<Starts> {
+    let mut starts = Starts([0; MAX_CODE / 64]);
     let mut at = 0;
     let mut last = None;
     while let Some(&opcode) = code.get(at) {
-        let Some(shape) = SHAPES.get(opcode as usize) else { return false };
-        let Some(operands) = code.get(at + 1..at + shape.length) else { return false };
+        let shape = SHAPES.get(opcode as usize)?;
+        let operands = code.get(at + 1..at + shape.length)?;
         let within = match opcode {
             LAB => (operands[0] as usize) < labels,
             INPUT => (operands[0] as usize) < inputs,
@@ -84,26 +115,28 @@ pub fn well_formed(code: &[u8], labels: usize, inputs: usize) -> bool {
             _ => true,
         };
         if !within {
-            return false;
+            return None;
         }
-        starts[at / 64] |= 1 << (at % 64);
+        starts.add(at);
         last = Some(opcode);
         at += shape.length;
     }
-    matches!(last, Some(END | JUMP | THROW)) && targets_are_starts(code, &starts)
+    let holds = matches!(last, Some(END | JUMP | THROW)) && targets_are_starts(code, &starts);
+    holds.then_some(starts)
 }
 
-fn targets_are_starts(code: &[u8], starts: &[u64; MAX_CODE / 64]) -> bool {
+fn targets_are_starts(code: &[u8], starts: &Starts) -> bool {
     let mut at = 0;
     while at < code.len() {
-        if matches!(code[at], JUMP | IFZ | BLOCK | TRY) {
-            let target = u16::from_le_bytes([code[at + 1], code[at + 2]]) as usize;
-            let word = starts.get(target / 64).copied().unwrap_or(0);
-            if word >> (target % 64) & 1 == 0 {
-                return false;
-            }
+        if matches!(code[at], JUMP | IFZ | BLOCK | TRY) && !starts.contains(target(code, at)) {
+            return false;
         }
         at += SHAPES[code[at] as usize].length;
     }
     true
+}
+
+/// The target of the instruction at `at`, which has one.
+pub fn target(code: &[u8], at: usize) -> usize {
+    u16::from_le_bytes([code[at + 1], code[at + 2]]) as usize
 }

@@ -21,6 +21,8 @@ pub enum Refusal {
     Buffer = 9,
     /// For days only, and tried where plain files have `Start`.
     Jobs = 10,
+    /// For quotes only, behind `Code`.
+    Ahead = 11,
 }
 
 impl Refusal {

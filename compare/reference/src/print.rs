@@ -1,12 +1,12 @@
 //! The printed form: one line per label, that label reading; of a day, as many
-//! lines per label as it has jobs.
+//! lines per label as it has jobs. A quote is one line.
 
 use crate::day::Day;
 use crate::file::File;
 use crate::limits::{shown, view};
 use crate::parts::Refusal;
 use crate::rules::Paper;
-use crate::{jobs, machine, view as views};
+use crate::{jobs, machine, quote, view as views};
 
 /// Bytes of each field in the front of a view, in order.
 const FRONT: [usize; 13] = [2, 2, 2, 2, 2, 2, 2, 8, 8, 8, 8, 8, 8];
@@ -41,6 +41,11 @@ pub fn day_lines(bytes: &[u8]) -> String {
         views.iter().for_each(|view| push_view(&mut text, view));
     }
     text
+}
+
+/// The line for the quote of a file, or for the refusal.
+pub fn quote_line(bytes: &[u8]) -> String {
+    quote::of_file(bytes).map_or_else(refused, |quote| format!("{quote}\n"))
 }
 
 fn refused(refusal: Refusal) -> String {

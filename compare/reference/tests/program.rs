@@ -112,3 +112,27 @@ fn a_batch_of_days_prints_every_day_and_a_dot() {
     let lines = ["refused 1\n.\n", LINE, SKIPPED, LINE, SKIPPED, ".\n"].concat();
     assert_eq!(String::from_utf8_lossy(&output.stdout), lines);
 }
+
+#[test]
+fn a_quote_is_one_line() {
+    let mut backwards = EXAMPLE;
+    // JUMP 0, END, END, END in place of PUSH 5, END.
+    backwards[21..].copy_from_slice(&[10, 0, 0, 0, 0, 0]);
+    let cases: [(&[u8], &str); 5] = [
+        (&EXAMPLE, "steps 2 places 0\n"),
+        (&backwards, "refused 11\n"),
+        (&day(), "refused 3\n"),
+        (&[0; 65_536], "refused 1\n"),
+        (&[], "refused 1\n"),
+    ];
+    let mut input = Vec::new();
+    for (file, line) in cases {
+        let output = run(&["--quote"], file);
+        assert!(output.status.success());
+        assert_eq!(String::from_utf8_lossy(&output.stdout), line);
+        batch::push(&mut input, file);
+    }
+    let output = run(&["--quote", "--batch"], &input);
+    assert!(output.status.success());
+    assert_eq!(String::from_utf8_lossy(&output.stdout), cases.map(|(_, line)| line).concat());
+}
