@@ -1,6 +1,6 @@
 /*
- * Reading a script file, or a day of up to 16 scripts, for one of its labels, on x86-64. Link with libmonitor.a, which
- * `rt staticlib monitor` writes.
+ * Reading a script file, or a day of up to 16 scripts, for one of its labels, and the quote of a script file, on x86-64.
+ * Link with libmonitor.a, which `rt staticlib monitor` writes.
  *
  * docs/SCRIPTS.md describes script files (there: plain files), days, faults and refusals, and under "A view" what is
  * written to the buffer.
@@ -12,8 +12,8 @@
 #include <stdint.h>
 
 /*
- * Refusals. Of a script file the lowest number that applies is answered; of a day the first that applies in the order
- * 1 2 3 4 10 6 7 8 9.
+ * Refusals. Of a script file the lowest number that applies is answered, of a quote the lowest of 1 to 7 and 11; of a day
+ * the first that applies in the order 1 2 3 4 10 6 7 8 9.
  */
 #define NECHWALU_REFUSED_SIZE 1    /* the file has under 16 bytes (a day: under 20) or over 65535 */
 #define NECHWALU_REFUSED_COUNT 2   /* a count in the header is outside its limits (a day's jobs: 10) */
@@ -26,6 +26,7 @@
 #define NECHWALU_REFUSED_BUFFER 9  /* the buffer is shorter than the view (a day: than all views together) */
 #define NECHWALU_REFUSED_JOBS 10   /* days only: no job or over 16, a job's field is out of range, or its starting label
                                       doesn't flow to its clearance */
+#define NECHWALU_REFUSED_AHEAD 11  /* quotes only: a target is not ahead of its instruction, or there is a TRY */
 
 /*
  * Sizes in bytes. An answer below the shortest view is a refusal. A buffer of the longest view is enough for every
@@ -70,6 +71,11 @@
 /* Within a label: the tables of its two formulas, 64-bit words. */
 #define NECHWALU_LABEL_AT_SECRECY 0
 #define NECHWALU_LABEL_AT_INTEGRITY 8
+
+/* A quote's answer: below this it is a refusal; else it has the steps above 32 bits, and the places in them. */
+#define NECHWALU_LEAST_QUOTE ((uint64_t)1 << 32)
+#define NECHWALU_QUOTED_STEPS(answer) ((uint32_t)((answer) >> 32))
+#define NECHWALU_QUOTED_PLACES(answer) ((uint32_t)(answer))
 
 /* Endings. */
 #define NECHWALU_ENDING_HIDDEN 0 /* the final label doesn't flow to the reader */
@@ -121,6 +127,19 @@ size_t nechwalu_read(const uint8_t *file, size_t file_length, size_t reader, uin
  * nechwalu_read. There is no heap and no global state here either; a call takes less than 512 KiB of stack.
  */
 size_t nechwalu_read_day(const uint8_t *file, size_t file_length, size_t reader, uint8_t *buffer, size_t buffer_length);
+
+/*
+ * What the script in `file` may cost, without running it: the largest steps and the largest places along any path through
+ * its code, each by itself. No run of a file with that code uses more steps, or takes more places beyond its input records,
+ * whatever its labels, records and limits are; a path reaches each figure, a run need not.
+ *
+ * Answers the number of a refusal, 1 to 7 or 11; or a number of NECHWALU_LEAST_QUOTE or more, which holds the figures:
+ * NECHWALU_QUOTED_STEPS, which is 1 or more, and NECHWALU_QUOTED_PLACES.
+ *
+ * Any bytes are allowed; `file` may be NULL where its length is 0. There is no heap and no global state; a call takes less
+ * than 512 KiB of stack.
+ */
+uint64_t nechwalu_quote(const uint8_t *file, size_t file_length);
 
 #ifdef __cplusplus
 }

@@ -1,4 +1,6 @@
-// Prints the lines of each plain file of a batch.
+// Prints the views of each plain file of a batch.
+use batches::Kind;
+
 fn main() {
-    batches::print_batch(false);
+    batches::print_batch(Kind::Views);
 }

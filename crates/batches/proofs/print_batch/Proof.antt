@@ -5,10 +5,10 @@ use Rattle.batches.proofs.print_batch.Statement.{statement}
 use Rattle.batches.proofs.print_batch.Tie as tie
 
 abbrev Inv-loop : tie.InvT-loop
-Inv-loop days turns₀ turns = turns ≤ 1000000
+Inv-loop kind turns₀ turns = turns ≤ 1000000
 
 abbrev μ-loop : tie.MeasureT-loop
-μ-loop days turns₀ turns = turns
+μ-loop kind turns₀ turns = turns
 
 pub print-batch-spec : {M : Type 1} → statement M
 print-batch-spec =

@@ -21,8 +21,4 @@ print-sized-spec =
     (search needs)
     (search needs)
     (search needs)
-    (search needs)
-    (search needs)
-    (search needs)
-    (search needs)
     (search needs))
