@@ -1,5 +1,6 @@
--- The demands on the open calls: of plain files, and of days.
+-- The demands on the open calls: on reads of plain files and of days, and on quotes.
 pub mod Answered
 pub mod Charged
 pub mod Demands
 pub mod DayDemands
+pub mod QuoteDemands

@@ -62,7 +62,7 @@ module _ (bs cs : List ℕ) (i : ℕ) (A : Alike bs cs i) (lb : legible bs i ≡
   he : header bs ≡ header cs
   he = same-header bs cs i A lb lc
 
-  same-refusal : refusal bs ≡ refusal cs
+  pub same-refusal : refusal bs ≡ refusal cs
   unfolding refusal passes1 passes2 passes3 passes4 passes5 passes7
   same-refusal =
       let six = legible-each bs i lb .1 .1 .1 .1 .0 in

@@ -3,22 +3,23 @@ use mathlib.Core.Bool.{Bool, true, false, true≢false, cond}
 use mathlib.Core.List.{List, []}
 use mathlib.Core.Logic.{_⊎_, inl, inr}
 use mathlib.Core.Path.{_≡_, refl, sym, ap, subst}
-use Prim.Native.Nat.{ℕ, _+_, _≤_}
+use Prim.Native.Nat.{ℕ, _+_, _≤_, _<_, _^_}
 use native.Mathlib.Omega.{arith}
 use lib.Dec.{eqb}
 use lib.ListN.{length}
+use lib.Seq.{getD-drop}
 use borrow.Author.Tests.{eqb-true, eqb-false}
 use Rattle.model.specs.State.{Control, Store, Program}
 use Rattle.model.specs.declared.Account.{Account}
 use Rattle.model.specs.declared.Instr.{Instr}
-use Rattle.model.specs.Decoding.{fetch, after}
+use Rattle.model.specs.Decoding.{byte, fetch, after}
 use Rattle.model.specs.Running.{runs, startControl, startStore}
 use Rattle.model.specs.Inputs.{inputSlots}
 use Rattle.formulas.specs.Lists.{among}
 use Rattle.code_check.specs.Sweep.{starts, all}
 use Rattle.code_check.proofs.Starts.{from}
 use Rattle.noninterference.proofs.Starts.{all-among}
-use Rattle.script_file.specs.Sections.{codeBytes}
+use Rattle.script_file.specs.Sections.{header, codeBytes}
 use Rattle.script_file.specs.Checks.{refusal}
 use Rattle.script_file.specs.Program.{fileInputs, fileProgram, fileAccount, fileRun}
 use Rattle.script_file.proofs.Answers.{refusal-most}
@@ -28,7 +29,8 @@ use Rattle.quote.specs.Passes.{Checked}
 use Rattle.quote.specs.declared.Figures.{Figures}
 use Rattle.quote.specs.declared.Quote.{Quote}
 use Rattle.quote.specs.declared.Quote.the-variants.{Refused, Quoted}
-use Rattle.quote.proofs.Largest.{Forward, most-above, unfolded, no-path-more, some-path}
+use Rattle.quote.proofs.Largest.{largest-within, Forward, most-above, unfolded, no-path-more, some-path}
+use Rattle.quote.proofs.Nodes.{steps-small, places-small}
 use Rattle.quote.proofs.Suffixes.{first-in}
 use Rattle.quote.proofs.Onwards.{forward, steps-some}
 use Rattle.quote.proofs.Follows.{nodeIn}
@@ -170,6 +172,24 @@ module _ (bs : List ℕ) (f : Figures) (q : quoting bs ≡ Quoted f) where
 
   checked : Checked (codeBytes bs)
   checked = checked-file bs (passed .loads)
+
+  -- A path has an instruction, and its figures are numbers of 32 bits.
+  pub steps-least : 1 ≤ f .steps
+  steps-least =
+      let code = codeBytes bs in
+      let first = start code checked (passed .ahead) in
+      omega (arith, ap (λ (x : Figures). x .steps) (passed .figures), own-most code checked (passed .ahead) (stepsAt code) 0 first,
+      steps-some (checked .labels) (checked .inputs) code (checked .passes) 0 first (ahead code checked (passed .ahead)) 0 first)
+
+  pub figures-short : ((i : ℕ) → byte bs i < 256) → (f .steps < 2 ^ 32) × (f .places < 2 ^ 32)
+  unfolding codeBytes
+  figures-short bytes =
+      let code = codeBytes bs in
+      let small : (i : ℕ) → byte code i < 256 = λ i. omega (arith, bytes (header bs .code .offset + i), getD-drop (header bs .code .offset) bs i 0) in
+      (omega (arith, ap (λ (x : Figures). x .steps) (passed .figures), checked .short,
+      largest-within (stepsAt code) (successorsAt code) 70000 (steps-small code small) (length code) 0),
+      omega (arith, ap (λ (x : Figures). x .places) (passed .figures), checked .short,
+      largest-within (placesAt code) (successorsAt code) 70000 (places-small code small) (length code) 0))
 
   -- The figures are the largest.
   pub quote-largest : LargestOf (codeBytes bs) f
