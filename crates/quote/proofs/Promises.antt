@@ -178,18 +178,31 @@ module _ (bs : List ℕ) (f : Figures) (q : quoting bs ≡ Quoted f) where
   steps-least =
       let code = codeBytes bs in
       let first = start code checked (passed .ahead) in
-      omega (arith, ap (λ (x : Figures). x .steps) (passed .figures), own-most code checked (passed .ahead) (stepsAt code) 0 first,
-      steps-some (checked .labels) (checked .inputs) code (checked .passes) 0 first (ahead code checked (passed .ahead)) 0 first)
+      omega (
+        arith,
+        ap (λ (x : Figures). x .steps) (passed .figures),
+        own-most code checked (passed .ahead) (stepsAt code) 0 first,
+        steps-some (checked .labels) (checked .inputs) code (checked .passes) 0 first (ahead code checked (passed .ahead)) 0 first,
+      )
 
   pub figures-short : ((i : ℕ) → byte bs i < 256) → (f .steps < 2 ^ 32) × (f .places < 2 ^ 32)
   unfolding codeBytes
   figures-short bytes =
       let code = codeBytes bs in
-      let small : (i : ℕ) → byte code i < 256 = λ i. omega (arith, bytes (header bs .code .offset + i), getD-drop (header bs .code .offset) bs i 0) in
-      (omega (arith, ap (λ (x : Figures). x .steps) (passed .figures), checked .short,
-      largest-within (stepsAt code) (successorsAt code) 70000 (steps-small code small) (length code) 0),
-      omega (arith, ap (λ (x : Figures). x .places) (passed .figures), checked .short,
-      largest-within (placesAt code) (successorsAt code) 70000 (places-small code small) (length code) 0))
+      let small : (i : ℕ) → byte code i < 256 = λ i. omega (arith, bytes (header bs .code .offset + i), getD-drop (header bs .code .offset) bs i 0) in (
+        omega (
+          arith,
+          ap (λ (x : Figures). x .steps) (passed .figures),
+          checked .short,
+          largest-within (stepsAt code) (successorsAt code) 70000 (steps-small code small) (length code) 0,
+        ),
+        omega (
+          arith,
+          ap (λ (x : Figures). x .places) (passed .figures),
+          checked .short,
+          largest-within (placesAt code) (successorsAt code) 70000 (places-small code small) (length code) 0,
+        ),
+      )
 
   -- The figures are the largest.
   pub quote-largest : LargestOf (codeBytes bs) f

@@ -59,6 +59,16 @@ struct Weight {
     places: u32,
 }
 
+fn weighed(ahead: bool, steps: u32, places: u32) -> Weight
+    ensures { λ r. ⌜ r ≡ record { ahead = ahead; steps = steps; places = places } ⌝ }
+{
+    Weight {
+        ahead,
+        steps,
+        places,
+    }
+}
+
 // Weighs the instruction with opcode `op` at `i`, by the figures of the instruction behind it, `next`, and those that stand
 // at the later places.
 fn weigh(code: &[u8], op: u8, i: usize, next: Figures, steps: &[u32], places: &[u32]) -> Weight
@@ -67,57 +77,27 @@ fn weigh(code: &[u8], op: u8, i: usize, next: Figures, steps: &[u32], places: &[
 {
     let operands = i + 1;
     match op {
-        0x00 => Weight {
-            ahead: true,
-            steps: 1,
-            places: 0,
-        },
+        0x00 => weighed(true, 1, 0),
         0x0A => {
             let target = decode::target_at(code, operands);
-            Weight {
-                ahead: i < target,
-                steps: 1 + found(steps, target),
-                places: found(places, target),
-            }
+            weighed(i < target, 1 + found(steps, target), found(places, target))
         }
         0x0B => {
             let target = decode::target_at(code, operands);
-            Weight {
-                ahead: i < target,
-                steps: 1 + larger(found(steps, target), next.steps),
-                places: larger(found(places, target), next.places),
-            }
+            let most_steps = larger(found(steps, target), next.steps);
+            let most_places = larger(found(places, target), next.places);
+            weighed(i < target, 1 + most_steps, most_places)
         }
-        0x13 => Weight {
-            ahead: true,
-            steps: 1 + next.steps,
-            places: 1 + next.places,
-        },
-        0x16 => Weight {
-            ahead: true,
-            steps: 1 + next.steps,
-            places: 1 + next.places,
-        },
-        0x19 => Weight {
-            ahead: i < decode::target_at(code, operands),
-            steps: 1 + decode::u16_at(code, operands + 2) as u32 + next.steps,
-            places: decode::byte_at(code, operands + 4) as u32 + 1 + next.places,
-        },
-        0x1A => Weight {
-            ahead: false,
-            steps: 1 + next.steps,
-            places: next.places,
-        },
-        0x1C => Weight {
-            ahead: true,
-            steps: 1,
-            places: 0,
-        },
-        _ => Weight {
-            ahead: true,
-            steps: 1 + next.steps,
-            places: next.places,
-        },
+        0x13 => weighed(true, 1 + next.steps, 1 + next.places),
+        0x16 => weighed(true, 1 + next.steps, 1 + next.places),
+        0x19 => weighed(
+            i < decode::target_at(code, operands),
+            1 + decode::u16_at(code, operands + 2) as u32 + next.steps,
+            decode::byte_at(code, operands + 4) as u32 + 1 + next.places,
+        ),
+        0x1A => weighed(false, 1 + next.steps, next.places),
+        0x1C => weighed(true, 1, 0),
+        _ => weighed(true, 1 + next.steps, next.places),
     }
 }
 

@@ -47,8 +47,11 @@ short (suc k) n lt = by (short k (n / 10)) (decLt n 10)
     by : (n / 10 < 10 ^ (k + 1) → length (decimal (n / 10)) ≤ k + 1) → Dec (n < 10) → length (decimal n) ≤ suc k + 1
     by less (yes small) = omega (arith, ap length (one-digit n small))
     by less (no large) =
-        omega (arith, less (omega (arith, lt, ten-times)),
-        ap length (more-digits n (omega arith)) ∙ length-append (decimal (n / 10)) ((0x30 + n % 10) ∷ []))
+        omega (
+          arith,
+          less (omega (arith, lt, ten-times)),
+          ap length (more-digits n (omega arith)) ∙ length-append (decimal (n / 10)) ((0x30 + n % 10) ∷ []),
+        )
 
 pub at-most-ten : (n : ℕ) → n < 2 ^ 32 → length (decimal n) ≤ 10
 at-most-ten n lt = short 9 n (omega arith)
@@ -59,5 +62,10 @@ at-most-ten n lt = short 9 n (omega arith)
 pub line-short : (f : Figures) → f .steps < 2 ^ 32 → f .places < 2 ^ 32 → length (figuresLine f) ≤ 35
 unfolding figuresLine
 line-short f s p =
-    omega (arith, at-most-ten (f .steps) s, at-most-ten (f .places) p,
-    length-append (decimal (f .steps)) (placesText ++ (decimal (f .places) ++ (0x0A ∷ []))), length-append (decimal (f .places)) (0x0A ∷ []))
+    omega (
+      arith,
+      at-most-ten (f .steps) s,
+      at-most-ten (f .places) p,
+      length-append (decimal (f .steps)) (placesText ++ (decimal (f .places) ++ (0x0A ∷ []))),
+      length-append (decimal (f .places)) (0x0A ∷ []),
+    )

@@ -71,21 +71,30 @@ module _ (f : tie.After-found3) where
   small-branch : f .found3 .result < 2 ^ 29
   small-branch = let b : tie.Start = search in omega (arith, branch-steps, b .pre .3 .below (target b))
 
+larger-small : tie.Need-add-weighed-2
+larger-small c =
+    let l : tie.After-larger = search in
+    let s : tie.After-found3 = search in
+    omega (arith, small-branch s, l .larger .ensures, next-steps (search) .1)
+
 -- ── the arms ──
 
 jumps : tie.Need-returns-2
 unfolding node instrs
 jumps c =
+    let w : tie.After-weighed2 = search in
     let p : tie.After-found2 = search in
     let s : tie.After-found = search in
     let t : tie.After-target-at = search in
     let b : tie.Start = search in
     let e : p .found2 .result ≡ places-at b (target b) = p .found2 .ensures ∙ ap (places-at b) (t .target-at .ensures) in
-    arm b 10 (search) (same-weight (ap (ltb (b .args .i)) (t .target-at .ensures)) (omega (arith, jump-steps s)) (omega (arith, e)))
+    arm b 10 (search)
+    (w .weighed2 .ensures ∙ same-weight (ap (ltb (b .args .i)) (t .target-at .ensures)) (omega (arith, jump-steps s)) (omega (arith, e)))
 
 branches : tie.Need-returns-3
 unfolding node instrs
 branches c =
+    let w : tie.After-weighed3 = search in
     let most-p : tie.After-larger2 = search in
     let p : tie.After-found4 = search in
     let most-s : tie.After-larger = search in
@@ -94,44 +103,48 @@ branches c =
     let b : tie.Start = search in
     let e : p .found4 .result ≡ places-at b (target b) = p .found4 .ensures ∙ ap (places-at b) (t .target-at2 .ensures) in
     arm b 11 (search)
-    (same-weight (ap (ltb (b .args .i)) (t .target-at2 .ensures))
+    (w .weighed3 .ensures
+    ∙ same-weight (ap (ltb (b .args .i)) (t .target-at2 .ensures))
     (omega (arith, branch-steps s, most-s .larger .ensures, next-steps b .0))
     (omega (arith, e, most-p .larger2 .ensures, next-places b .0)))
 
 block : tie.Need-returns-6
 unfolding node instrs
 block c =
+    let w : tie.After-weighed6 = search in
     let k : tie.After-byte-at = search in
     let n : tie.After-u16-at = search in
     let t : tie.After-target-at3 = search in
     let b : tie.Start = search in
     arm b 25 (search)
-    (same-weight (ap (ltb (b .args .i)) (t .target-at3 .ensures))
+    (w .weighed6 .ensures
+    ∙ same-weight (ap (ltb (b .args .i)) (t .target-at3 .ensures))
     (omega (arith, n .u16-at .ensures, next-steps b .0))
     (omega (arith, k .byte-at .ensures, next-places b .0)))
 
--- an instruction that makes a record
+-- an instruction that makes a record, and one that only goes on
 makes : (b : tie.Start) → weight true (1 + b .args .next .steps) (1 + b .args .next .places)
     ≡ weightFrom (steps-at b) (places-at b) (makesRecord (after (code b) (b .args .i)))
 makes b = same-weight refl (omega (arith, next-steps b .0)) (omega (arith, next-places b .0))
 
--- one that only goes on
 goes-on : (b : tie.Start) → weight true (1 + b .args .next .steps) (b .args .next .places)
     ≡ weightFrom (steps-at b) (places-at b) (goesOn (after (code b) (b .args .i)))
 goes-on b = same-weight refl (omega (arith, next-steps b .0)) (omega (arith, next-places b .0))
 
-others : tie.Need-returns-9
-others c =
-    let b : tie.Start = search in
-    subst (λ (x : Node). weight true (1 + b .args .next .steps) (b .args .next .places) ≡ weightFrom (steps-at b) (places-at b) x)
-    (plain-else (code b) (b .args .i + 1) (b .args .op) (b .pre .1) (b .args .i) (after (code b) (b .args .i)) (search)) (goes-on b)
-
--- one that is refused
 tries : tie.Need-returns-7
 unfolding node instrs
 tries c =
+    let w : tie.After-weighed7 = search in
     let b : tie.Start = search in
-    arm b 26 (search) (same-weight refl (omega (arith, next-steps b .0)) (omega (arith, next-places b .0)))
+    arm b 26 (search) (w .weighed7 .ensures ∙ same-weight refl (omega (arith, next-steps b .0)) (omega (arith, next-places b .0)))
+
+others : tie.Need-returns-9
+others c =
+    let w : tie.After-weighed9 = search in
+    let b : tie.Start = search in
+    subst (λ (x : Node). w .weighed9 .result ≡ weightFrom (steps-at b) (places-at b) x)
+    (plain-else (code b) (b .args .i + 1) (b .args .op) (b .pre .1) (b .args .i) (after (code b) (b .args .i)) (search))
+    (w .weighed9 .ensures ∙ goes-on b)
 
 pub weigh-spec : {M : Type 1} → statement M
 unfolding node instrs
@@ -141,19 +154,24 @@ weigh-spec =
     (search needs)
     (λ c κs. search needs)
     (λ c κs. search needs)
+    (λ c κs. search needs)
     (λ c. omega (arith, small-jump (search)))
     (λ c κs. search needs)
     (λ c κs. search needs)
     (λ c κs. search needs)
     (λ c κs. search needs)
-    (λ c. let s : tie.After-found3 = search in omega (arith, small-branch s, c .larger .ensures, next-steps (search) .1))
     (λ c κs. search needs)
+    (λ c κs. search needs)
+    (λ c κs. search needs)
+    larger-small
     (λ c κs. search needs)
     (λ c. omega (arith, next-steps (search) .1))
     (λ c. omega (arith, next-places (search) .1))
+    (λ c κs. search needs)
     (λ c. omega (arith, next-steps (search) .1))
     (λ c. omega (arith, next-places (search) .1))
     (λ c κs. search needs)
+    (λ c κs. search needs)
     (λ c. search needs)
     (λ c κs. search needs)
     (λ c. search needs)
@@ -164,14 +182,18 @@ weigh-spec =
     (λ c. search needs)
     (λ c. search needs)
     (λ c. omega (arith, next-places (search) .1))
+    (λ c κs. search needs)
     (λ c. omega (arith, next-steps (search) .1))
+    (λ c κs. search needs)
+    (λ c κs. search needs)
     (λ c. omega (arith, next-steps (search) .1))
-    (λ c. arm (search) 0 (search) refl)
+    (λ c κs. search needs)
+    (λ c. arm (search) 0 (search) (c .weighed .ensures))
     jumps
     branches
-    (λ c. arm (search) 19 (search) (makes (search)))
-    (λ c. arm (search) 22 (search) (makes (search)))
+    (λ c. arm (search) 19 (search) (c .weighed4 .ensures ∙ makes (search)))
+    (λ c. arm (search) 22 (search) (c .weighed5 .ensures ∙ makes (search)))
     block
     tries
-    (λ c. arm (search) 28 (search) refl)
+    (λ c. arm (search) 28 (search) (c .weighed8 .ensures))
     others)
