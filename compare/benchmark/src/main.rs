@@ -1,6 +1,6 @@
 //! Times every load on every implementation, in turns, and keeps the best; then
-//! measures the stack that each takes. A last line for each implementation has the
-//! slowest quote beside a view.
+//! measures the stack that each takes. A last line for each implementation has its
+//! quotes beside a view.
 
 mod loads;
 mod stack;
@@ -82,22 +82,14 @@ fn main() {
     print_beside(&beside);
 }
 
-/// For each implementation its slowest quote beside the view of the same run.
+/// For each implementation its quotes beside the view of the same run.
 fn print_beside(times: &[(Load, Vec<f64>)]) {
-    for (at, implementation) in IMPLEMENTATIONS.iter().enumerate() {
-        let view = times.iter().find(|(load, _)| load.name == VIEW);
-        let slowest = times
-            .iter()
-            .filter(|(load, _)| load.kind == Kind::Quote)
-            .max_by(|(_, one), (_, other)| one[at].total_cmp(&other[at]));
-        let (Some((_, of_view)), Some((load, of_quote))) = (view, slowest) else { return };
-        let (of_view, of_quote) = (of_view[at], of_quote[at]);
-        println!(
-            "{}: {} {of_quote:.0} ns, {VIEW} {of_view:.0} ns; {:.3} of it",
-            implementation.name,
-            load.name,
-            of_quote / of_view
-        );
+    let Some((_, views)) = times.iter().find(|(load, _)| load.name == VIEW) else { return };
+    for (implementation, at) in IMPLEMENTATIONS.iter().zip(0..) {
+        let quotes = times.iter().filter(|(load, _)| load.kind == Kind::Quote);
+        let shares: Vec<String> =
+            quotes.map(|(load, of_quote)| format!("{} {:.2}", load.name, of_quote[at] / views[at])).collect();
+        println!("{}, of the time of the {VIEW}: {}", implementation.name, shares.join(", "));
     }
 }
 
