@@ -1,7 +1,7 @@
 -- What a quote promises: its figures are the largest of any path, each reached by one, and no run of that code uses more.
 use mathlib.Core.Bool.{Bool, true, false, true≢false, cond}
 use mathlib.Core.List.{List, []}
-use mathlib.Core.Logic.{_⊎_, inl, inr}
+use mathlib.Core.Logic.{_≢_, _⊎_, inl, inr}
 use mathlib.Core.Path.{_≡_, refl, sym, ap, subst}
 use Prim.Native.Nat.{ℕ, _+_, _≤_, _<_, _^_}
 use native.Mathlib.Omega.{arith}
@@ -15,6 +15,8 @@ use Rattle.model.specs.declared.Instr.{Instr}
 use Rattle.model.specs.Decoding.{byte, fetch, after}
 use Rattle.model.specs.Running.{runs, startControl, startStore}
 use Rattle.model.specs.Inputs.{inputSlots}
+use Rattle.model.specs.declared.Ending.the-variants.{Spent}
+use Rattle.model.proofs.Spending.{spent-left}
 use Rattle.formulas.specs.Lists.{among}
 use Rattle.code_check.specs.Sweep.{starts, all}
 use Rattle.code_check.proofs.Starts.{from}
@@ -218,3 +220,10 @@ module _ (bs : List ℕ) (f : Figures) (q : quoting bs ≡ Quoted f) where
   no-run-more cs e =
       quote-bounds (fileProgram cs) (record { fetches = ap fetch e; goes-on = ap after e }) startControl refl refl (fileAccount cs)
       (startStore (inputSlots (fileInputs cs)))
+
+  -- So one that declares more steps never ends spent.
+  pub never-spent : (cs : List ℕ) → codeBytes cs ≡ codeBytes bs → f .steps < header cs .steps → fileRun cs .ending ≢ Spent
+  unfolding fileRun fileAccount
+  never-spent cs e more spent =
+      omega (arith, more, no-run-more cs e .steps-used,
+      spent-left (fileProgram cs) startControl (fileAccount cs) (startStore (inputSlots (fileInputs cs))) spent)
