@@ -225,5 +225,9 @@ module _ (bs : List ℕ) (f : Figures) (q : quoting bs ≡ Quoted f) where
   pub never-spent : (cs : List ℕ) → codeBytes cs ≡ codeBytes bs → f .steps < header cs .steps → fileRun cs .ending ≢ Spent
   unfolding fileRun fileAccount
   never-spent cs e more spent =
-      omega (arith, more, no-run-more cs e .steps-used,
-      spent-left (fileProgram cs) startControl (fileAccount cs) (startStore (inputSlots (fileInputs cs))) spent)
+      omega (
+        arith,
+        more,
+        no-run-more cs e .steps-used,
+        spent-left (fileProgram cs) startControl (fileAccount cs) (startStore (inputSlots (fileInputs cs))) spent,
+      )
