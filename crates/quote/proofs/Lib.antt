@@ -6,5 +6,6 @@ pub mod Onwards
 pub mod Pass
 pub mod Files
 pub mod Promises
+pub mod Example
 pub mod Follows
 pub mod Runs
