@@ -92,19 +92,19 @@ module _ (l c : ℕ) (code : List ℕ) (ok : codeOk l c code ≡ true) where
           by (inl e) = absurd (omega (arith, e, forward .ahead i j (first-in code i inside) g))
           by (inr h) = h
 
-      module _ (cost : ℕ → ℕ) where
-        module _ (fs : List ℕ) (right : Right code cost (behind code i) fs) where
-          -- so is that of the start before them
-          pub right-here : cost i + most (at fs) (successorsAt code i) ≡ largest cost (successorsAt code) (length code) i
-          right-here =
-              ap (λ (x : ℕ). cost i + x)
-              (most-same (at fs) (largest cost (successorsAt code) (length code)) (successorsAt code i) (λ j g. right j (successor-later j g)))
-              ∙ sym (unfolded cost (successorsAt code) (length code) (λ q. among q (from code i) ≡ true) forward (length code) i (first-in code i inside) (omega arith))
+      -- where the figures of all later starts are right
+      module _ (cost : ℕ → ℕ) (fs : List ℕ) (right : Right code cost (behind code i) fs) where
+        -- so is that of the start before them
+        pub right-here : cost i + most (at fs) (successorsAt code i) ≡ largest cost (successorsAt code) (length code) i
+        right-here =
+            ap (λ (x : ℕ). cost i + x)
+            (most-same (at fs) (largest cost (successorsAt code) (length code)) (successorsAt code i) (λ j g. right j (successor-later j g)))
+            ∙ sym (unfolded cost (successorsAt code) (length code) (λ q. among q (from code i) ≡ true) forward (length code) i (first-in code i inside) (omega arith))
 
-          pub right-set : (x : ℕ) → x ≡ largest cost (successorsAt code) (length code) i → i < length fs → Right code cost i (set fs i x)
-          right-set x e lt q h = by (split code i q inside h)
-            where
-              by : (q ≡ i) ⊎ (among q (from code (behind code i)) ≡ true) → at (set fs i x) q ≡ largest cost (successorsAt code) (length code) q
-              by (inl g) = rw g (getD-set-same fs i x 0 lt ∙ e)
-              by (inr g) =
-                  getD-set-other fs i q x 0 (λ p. omega (arith, p, from-within code (behind code i) q g .0, size-some (byte code i))) ∙ right q g
+        pub right-set : (x : ℕ) → x ≡ largest cost (successorsAt code) (length code) i → i < length fs → Right code cost i (set fs i x)
+        right-set x e lt q h = by (split code i q inside h)
+          where
+            by : (q ≡ i) ⊎ (among q (from code (behind code i)) ≡ true) → at (set fs i x) q ≡ largest cost (successorsAt code) (length code) q
+            by (inl g) = rw g (getD-set-same fs i x 0 lt ∙ e)
+            by (inr g) =
+                getD-set-other fs i q x 0 (λ p. omega (arith, p, from-within code (behind code i) q g .0, size-some (byte code i))) ∙ right q g
