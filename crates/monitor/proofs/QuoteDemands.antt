@@ -1,22 +1,17 @@
 -- The demands on a quote, as the open calls' contracts give it: every file gets one answer, the figures are the largest and no
 -- run uses more, and the answer tells nothing of hidden numbers.
-use mathlib.Core.Bool.{true, false}
 use mathlib.Core.List.{List}
 use mathlib.Core.Logic.{_⊎_, inl, inr}
-use mathlib.Core.Path.{_≡_, refl, sym, ap, _∙_, subst}
+use mathlib.Core.Path.{_≡_, refl, ap}
 use Prim.Native.Nat.{ℕ, _+_, _*_, _≤_, _<_, _^_}
 use native.Mathlib.Omega.{arith}
-use lib.Dec.{ltb}
-use lib.ListN.{length}
 use borrow.Author.Tests.{lt-ltb, le-ltb}
 use Rattle.model.specs.Decoding.{byte}
-use Rattle.script_file.specs.Sections.{codeBytes}
-use Rattle.script_file.specs.Checks.{refusal}
+use Rattle.script_file.specs.Sections.{sections, codeBytes}
 use Rattle.noninterference.specs.Alike.{Alike, legible}
 use Rattle.noninterference.proofs.Sections.{one-or-legible, same-code}
 use Rattle.noninterference.proofs.Demand3.{same-refusal}
-use Rattle.script_file.specs.Sections.{sections}
-use Rattle.quote.specs.Quoting.{codeQuote, quoting}
+use Rattle.quote.specs.Quoting.{quoting}
 use Rattle.quote.specs.declared.Figures.{Figures}
 use Rattle.quote.specs.declared.Quote.{Quote}
 use Rattle.quote.specs.declared.Quote.the-variants.{Refused, Quoted}

@@ -1,5 +1,5 @@
 -- `monitor::nechwalu_quote` meets its contract.
-use mathlib.Core.Path.{_≡_, sym, ap, _∙_}
+use mathlib.Core.Path.{sym, ap, _∙_}
 use Rattle.monitor.specs.Calls.{quoteCode}
 use borrow.Author.Needs.{needs}
 use Rattle.monitor.proofs.nechwalu_quote.Statement.{statement}

@@ -1,5 +1,5 @@
 -- `quote_lines::write_decimal` meets its contract: it calls itself for a tenth of the number. Assumes nothing.
-use mathlib.Core.List.{List, [], _∷_, _++_}
+use mathlib.Core.List.{List, [], _∷_}
 use mathlib.Core.Path.{_≡_, refl, sym, ap, _∙_}
 use Prim.Native.Nat.{ℕ, _+_, _/_, _%_, _≤_, _<_}
 use native.Mathlib.Omega.{arith}
@@ -7,7 +7,6 @@ use lib.ListN.{length, set, length-append}
 use Rattle.lines.specs.Lines.{decimal}
 use Rattle.view_fields.proofs.Buffers.{Writing, start, first, byte, ends, ends-at}
 use Rattle.quote_lines.proofs.Decimal.{one-digit, more-digits}
-use borrow.Author.Needs.{needs}
 use borrow.Fn.Kinds.{In}
 use borrow.Fn.PlainCycle.{Measures, is, falls, and}
 use Rattle.quote_lines.proofs.write_decimal.Reads as write-decimal

@@ -8,7 +8,6 @@ use lib.ListN.{length}
 use Rattle.view_fields.specs.Writing.{over}
 use Rattle.quote.specs.Quoting.{quoting}
 use Rattle.quote.specs.declared.Quote.{Quote}
-use Rattle.quote.specs.declared.Quote.the-variants.{Refused}
 use Rattle.quote.proofs.Promises.{refused-with}
 use Rattle.quote_lines.specs.Lines.{quoteLine, quotePrinted}
 use borrow.Author.Needs.{needs}
