@@ -3,6 +3,7 @@
 use reference::day_script::{DayScript, JobEntry};
 use reference::limits::{view, MAX_CODE, MAX_DAY, MAX_JOBS, MAX_PLACES, MAX_RECORDS, MAX_VIEW};
 use reference::opcode::*;
+use reference::print::MAX_LINE;
 use reference::script::{Clauses, Code, Input, Script, Target};
 
 /// What a figure is for.
@@ -12,15 +13,19 @@ pub enum Unit {
     Step,
     /// A whole read.
     Read,
+    /// A whole read, and its view printed.
+    Line,
     /// A whole quote.
     Quote,
 }
 
-/// What a load is read as, or whether it is quoted.
+/// What a load is read as, or whether it is printed as well, or quoted.
 #[derive(Clone, Copy, Debug, PartialEq, Eq)]
 pub enum Kind {
     Plain,
     Day,
+    /// Read as a plain file, and its view printed as a line.
+    Line,
     Quote,
 }
 
@@ -36,11 +41,12 @@ pub struct Load {
 }
 
 impl Load {
-    /// A buffer for whatever is read.
+    /// A buffer for whatever is read; for a line, with the view behind it.
     pub fn buffer(&self) -> Vec<u8> {
         match self.kind {
             Kind::Plain => vec![0; MAX_VIEW],
             Kind::Day => vec![0; MAX_DAY],
+            Kind::Line => vec![0; MAX_LINE + MAX_VIEW],
             Kind::Quote => Vec::new(),
         }
     }
@@ -48,7 +54,7 @@ impl Load {
     /// How many units one read is.
     pub fn units(&self) -> u32 {
         match self.unit {
-            Unit::Read | Unit::Quote => 1,
+            Unit::Read | Unit::Line | Unit::Quote => 1,
             Unit::Step => self.steps(),
         }
     }
@@ -59,7 +65,7 @@ impl Load {
         let read = match self.kind {
             Kind::Plain => reference::read,
             Kind::Day => reference::read_day,
-            Kind::Quote => unreachable!("a quote is no load by step"),
+            Kind::Line | Kind::Quote => unreachable!("neither a line nor a quote is a load by step"),
         };
         let length = read(&self.file, self.reader, &mut buffer).expect("loads by step are valid");
         let field = |at: usize| u16::from_le_bytes([buffer[at], buffer[at + 1]]);
@@ -92,6 +98,8 @@ pub fn loads() -> Vec<Load> {
         by_step("throw/catch loop", endless(throw)),
         by_read("refused late", refused_late()),
         by_read(VIEW, full_view()),
+        by_read("view of 64 records", records_alone()),
+        Load { kind: Kind::Line, ..plain("line of 64 records", records_alone(), Unit::Line) },
         Load { name: "day of 16 jobs", kind: Kind::Day, file: day().bytes(), reader: 1, unit: Unit::Step },
         quoted("quote of 4,095 CURs", filled(|code, _| _ = code.op(CUR))),
         quoted("quote of 1,365 IFZs", filled(|code, last| _ = code.ifz(last))),
@@ -231,10 +239,22 @@ fn full_view() -> Script {
     script
 }
 
+/// As many input records as there may be, and the reader sees them all. Nothing is run
+/// but an END, which finds no result to pop, and there are no places beside theirs: what
+/// takes time is to load the records and to write the view.
+pub fn records_alone() -> Script {
+    let mut script = script(Code::new().end());
+    script.records.resize(MAX_RECORDS, Input::sealed(2, 7));
+    script.places = MAX_RECORDS as u16;
+    script
+}
+
 #[cfg(test)]
 mod tests {
     use super::*;
+    use crate::lines;
     use reference::limits::shown;
+    use reference::print;
 
     fn load(name: &str) -> Load {
         loads().into_iter().find(|load| load.name == name).expect("a load of this name")
@@ -274,6 +294,46 @@ mod tests {
     fn reads_end_as_they_are_named() {
         assert_eq!(read(&load("refused late")).0, Err(7));
         assert_eq!(read(&load(VIEW)).0, Ok(MAX_VIEW));
+    }
+
+    #[test]
+    fn records_alone_are_all_shown() {
+        let (answer, view) = read(&load("view of 64 records"));
+        assert_eq!(answer, Ok(view::RECORDS + shown::LENGTH * 64));
+        let numbers: Vec<u16> = view[..view::RESULT]
+            .chunks_exact(2)
+            .map(|bytes| u16::from_le_bytes([bytes[0], bytes[1]]))
+            .collect();
+        // A fault after one step, in the END; no place was taken but those of the records.
+        assert_eq!(numbers, [2, 1, 64, 64, 62, 62 + 36 * 64]);
+        // Its code is 20, too few operands, and its number is 0.
+        assert_eq!(view[view::RESULT..view::LABEL], [[5u8, 0, 20].as_slice(), &[0; 15]].concat());
+        let places = view[view::RECORDS..].chunks(shown::LENGTH).take(64).map(|record| record[shown::PLACE]);
+        assert!(places.eq(0..64u8));
+    }
+
+    #[test]
+    fn the_line_is_the_view_s_and_as_the_program_prints_it() {
+        let load = load("line of 64 records");
+        assert_eq!(load.file, self::load("view of 64 records").file);
+        let mut buffer = vec![0xEE; load.buffer().len()];
+        let length = lines::of_reference(&load.file, load.reader, &mut buffer).expect("a valid file");
+        let printed = print::lines(&load.file);
+        let expected = printed.split_inclusive('\n').nth(load.reader).expect("a line for each label");
+        assert_eq!(&buffer[..length], expected.as_bytes());
+        assert!(buffer[length..MAX_LINE].iter().all(|&byte| byte == 0xEE));
+    }
+
+    /// Their answers, lines and views, and the bytes that both leave alone.
+    #[cfg(feature = "proved")]
+    #[test]
+    fn both_implementations_leave_the_same_bytes() {
+        let load = load("line of 64 records");
+        let [reference, proved] = [lines::of_reference, lines::of_proved].map(|print| {
+            let mut buffer = vec![0xEE; load.buffer().len()];
+            (print(&load.file, load.reader, &mut buffer), buffer)
+        });
+        assert!(reference == proved, "{:?} and {:?}", reference.0, proved.0);
     }
 
     #[test]

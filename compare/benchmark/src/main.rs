@@ -1,7 +1,11 @@
 //! Times every load on every implementation, in turns, and keeps the best; then
-//! measures the stack that each takes. A last line for each implementation has its
-//! quotes beside a view.
+//! measures the stack that each takes. Most loads are read, one is read and its view
+//! printed, some are quoted. A last line for each implementation has its quotes beside a
+//! view.
 
+#[cfg(feature = "proved")]
+mod line_call;
+mod lines;
 mod loads;
 mod stack;
 
@@ -15,7 +19,8 @@ struct Implementation {
     name: &'static str,
     read: Read,
     read_day: Read,
-    /// In the form of a read, so that all are timed alike.
+    // In the form of a read, so that all are timed alike.
+    line: Read,
     quote: Read,
 }
 
@@ -24,6 +29,7 @@ impl Implementation {
         match load.kind {
             Kind::Plain => self.read,
             Kind::Day => self.read_day,
+            Kind::Line => self.line,
             Kind::Quote => self.quote,
         }
     }
@@ -34,6 +40,7 @@ const IMPLEMENTATIONS: &[Implementation] = &[
         name: "reference",
         read: reference::read,
         read_day: reference::read_day,
+        line: lines::of_reference,
         quote: |file, _, _| reference::quote(file).map(|quote| black_box(quote).steps as usize),
     },
     #[cfg(feature = "proved")]
@@ -41,6 +48,7 @@ const IMPLEMENTATIONS: &[Implementation] = &[
         name: "proved",
         read: nechwalu::read,
         read_day: nechwalu::read_day,
+        line: lines::of_proved,
         quote: |file, _, _| nechwalu::quote(file).map(|quote| black_box(quote).steps as usize),
     },
 ];
@@ -68,6 +76,7 @@ fn main() {
         let unit = match load.unit {
             Unit::Step => "step",
             Unit::Read => "read",
+            Unit::Line => "line",
             Unit::Quote => "quote",
         };
         let ratio = match best[..] {

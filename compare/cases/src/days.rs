@@ -36,7 +36,7 @@ pub enum JobEnds {
     Ends(Ending),
 }
 
-/// Every case there is.
+/// Every case there is, but for that of [`crate::writing`].
 pub fn all() -> Vec<DayCase> {
     [
         refusals::cases(),

@@ -14,6 +14,7 @@ pub mod paper;
 pub mod quotes;
 pub mod refusals;
 pub mod values;
+pub mod writing;
 
 use reference::script::{Clauses, Code, Input, Script};
 use reference::value::{Ending, Fault, Value};
@@ -50,7 +51,7 @@ impl Expected {
 /// Writes some instructions.
 type Write = fn(&mut Code);
 
-/// Every case there is.
+/// Every case there is, but for those of [`writing`].
 pub fn all() -> Vec<Case> {
     [
         paper::cases(),

@@ -2,7 +2,7 @@
 //! out here by hand.
 
 use cases::days::{self, DayCase, Expected, JobEnds};
-use cases::Case;
+use cases::{writing, Case};
 use reference::day::Day;
 use reference::day_script::{DayScript, JobEntry};
 use reference::file::File;
@@ -26,7 +26,7 @@ fn found(file: &[u8]) -> Expected {
 
 #[test]
 fn every_day_ends_as_expected() {
-    for DayCase { name, file, expected } in days::all() {
+    for DayCase { name, file, expected } in days::all().into_iter().chain([writing::day()]) {
         assert_eq!(found(&file), expected, "{name}");
     }
 }

@@ -1,7 +1,7 @@
 //! Every case gives what it must, and the paper's own give the whole views that
 //! are worked out here by hand.
 
-use cases::{all, paper, Case, Expected};
+use cases::{all, paper, writing, Case, Expected};
 use reference::file::File;
 use reference::print;
 use reference::rules::Paper;
@@ -9,7 +9,7 @@ use std::collections::HashSet;
 
 #[test]
 fn every_case_ends_as_expected() {
-    for Case { name, file, expected } in all() {
+    for Case { name, file, expected } in [all(), writing::cases()].concat() {
         let found = match File::parse(&file) {
             Err(refusal) => Expected::Refused(refusal.number()),
             Ok(file) => Expected::Ends(reference::machine::run(&file, &Paper).ending),

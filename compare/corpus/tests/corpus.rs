@@ -3,7 +3,9 @@
 use generator::coverage::Coverage;
 use mutants::list::{Mutant, MUTANTS};
 use mutants::search::differs;
+use mutants::writer_search;
 use mutants::wrong::Wrong;
+use mutants::wrong_writers::{self, WrongWriter};
 use std::collections::HashSet;
 
 #[test]
@@ -50,4 +52,13 @@ fn every_mutant_prints_something_else() {
     let told = |mutant| entries.iter().any(|entry| differs(&Wrong::new(mutant), &entry.file));
     let untold: Vec<Mutant> = MUTANTS.iter().copied().filter(|&mutant| !told(mutant)).collect();
     assert_eq!(untold, []);
+}
+
+#[test]
+fn every_wrong_writer_prints_something_else() {
+    let entries = corpus::entries();
+    let told = |wrong: &WrongWriter| entries.iter().any(|entry| writer_search::differs(wrong, &entry.file));
+    let untold: Vec<String> =
+        wrong_writers::all().into_iter().filter(|wrong| !told(wrong)).map(|wrong| wrong.name).collect();
+    assert_eq!(untold, [""; 0]);
 }

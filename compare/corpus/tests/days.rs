@@ -5,6 +5,8 @@ use generator::day_coverage::DayCoverage;
 use mutants::day_list::{DayMutant, DAY_MUTANTS};
 use mutants::day_search::views;
 use mutants::day_wrong::WrongDay;
+use mutants::writer_search::differs_on_day;
+use mutants::wrong_writers::{self, WrongWriter};
 use reference::day::Day;
 use reference::rules::Paper;
 use std::collections::HashSet;
@@ -72,4 +74,17 @@ fn every_other_mutant_prints_something_else() {
     };
     let untold: Vec<DayMutant> = DAY_MUTANTS.iter().copied().filter(|&mutant| !told(mutant)).collect();
     assert_eq!(untold, UNPRINTED);
+}
+
+/// The one wrong writer that takes a job of 32,768 steps or more to be told, which the
+/// corpus of plain files has.
+const LONG_RUN: &str = "Short1SevenBits";
+
+#[test]
+fn every_other_wrong_writer_prints_something_else() {
+    let entries = days::entries();
+    let told = |wrong: &WrongWriter| entries.iter().any(|entry| differs_on_day(wrong, &entry.file));
+    let untold: Vec<String> =
+        wrong_writers::all().into_iter().filter(|wrong| !told(wrong)).map(|wrong| wrong.name).collect();
+    assert_eq!(untold, [LONG_RUN]);
 }

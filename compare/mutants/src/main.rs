@@ -1,13 +1,14 @@
 //! Says for each mutant after how many generated pairs it is found out, and by how
-//! many pairs, files or days written by hand; of wrong quotes, after how many generated
-//! files. Fails if one is found by neither.
+//! many pairs, files or days written by hand; of wrong quotes and wrong writers, after how
+//! many generated files. Fails if one is found by neither.
 
-use cases::{days, quotes};
+use cases::{days, quotes, writing};
 use mutants::day_list::DAY_MUTANTS;
 use mutants::list::{Harm, MUTANTS};
 use mutants::wrong::Wrong;
-use mutants::{by_hand, day_by_hand, day_search, quote_search, search, wrong_quotes};
-use mutants::{MOST_DAY_PAIRS, MOST_PAIRS, MOST_QUOTES};
+use mutants::{by_hand, day_by_hand, day_search, quote_search, search, writer_search};
+use mutants::{wrong_quotes, wrong_writers};
+use mutants::{MOST_DAY_PAIRS, MOST_PAIRS, MOST_QUOTES, MOST_WRITTEN};
 use std::process::ExitCode;
 
 /// How many mutants there are, and how many of them were found out.
@@ -38,6 +39,7 @@ fn main() -> ExitCode {
         ("mutants", plain_mutants()),
         ("mutants of days", day_mutants()),
         ("mutants of quotes", quote_mutants()),
+        ("mutants of the writer", writer_mutants()),
     ];
     for (kind, tally) in &tallies {
         println!("{} {kind}, {} found by chance, {} not found", tally.all, tally.by_chance, tally.unfound);
@@ -91,6 +93,18 @@ fn quote_mutants() -> Tally {
         let needed = quote_search::files_needed(&wrong, MOST_QUOTES);
         let told = cases.iter().filter(|case| quote_search::differs(&wrong, &case.file)).count();
         tally.add(Harm::Wrong, wrong.name.into(), needed, told, wrong.says);
+    }
+    tally
+}
+
+/// A wrong writer is given the right view.
+fn writer_mutants() -> Tally {
+    let cases = [cases::all(), writing::cases()].concat();
+    let mut tally = Tally::default();
+    for wrong in wrong_writers::all() {
+        let needed = writer_search::files_needed(&wrong, MOST_WRITTEN);
+        let told = cases.iter().filter(|case| writer_search::differs(&wrong, &case.file)).count();
+        tally.add(Harm::Wrong, wrong.name, needed, told, &wrong.says);
     }
     tally
 }

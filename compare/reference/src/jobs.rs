@@ -56,7 +56,8 @@ pub fn views<R: DayRules>(day: &Day, outcomes: &[Outcome], reader: Label, rules:
         Outcome::Ran(finished) => views::bytes(finished, reader, rules),
         Outcome::Skipped(job) => {
             let numbers = rules.skipped_numbers(job, inputs, reader);
-            let mut view: Vec<u8> = numbers.into_iter().flat_map(u16::to_le_bytes).collect();
+            let mut view: Vec<u8> =
+                numbers.into_iter().flat_map(|number| rules.short_bytes(number)).collect();
             view.resize(view::RECORDS, 0);
             view
         }

@@ -1,4 +1,5 @@
-//! The rules that keep hidden numbers hidden, each under a name of its own.
+//! The rules that keep hidden numbers hidden, each under a name of its own, and those
+//! by which numbers are written.
 //!
 //! The interpreter asks a `Rules` at every such decision. [`Paper`] answers as
 //! the paper does: it takes every method as it stands here, and the compiler
@@ -210,6 +211,24 @@ pub trait Rules {
     #[inline]
     fn blanks(&self, _field: Field) -> bool {
         true
+    }
+
+    /// How the view has one of its 16-bit numbers.
+    #[inline]
+    fn short_bytes(&self, number: u16) -> [u8; 2] {
+        number.to_le_bytes()
+    }
+
+    /// How the view has one of its words.
+    #[inline]
+    fn word_bytes(&self, word: u64) -> [u8; 8] {
+        word.to_le_bytes()
+    }
+
+    /// How a line has a byte of the view.
+    #[inline]
+    fn digits(&self, byte: u8) -> [char; 2] {
+        [byte >> 4, byte & 15].map(|digit| char::from_digit(digit.into(), 16).expect("a digit below 16"))
     }
 
     // The paper has nothing more happen at these moments.

@@ -57,15 +57,15 @@ fn fill<R: Rules>(finished: &Finished, count: Count, reader: Label, view: &mut [
     let shows = |record: &Record| rules.shows(record.label, finished.label, reader);
     let (head, records) = view.split_at_mut(view::RECORDS);
     write_run(finished, reader, head, rules);
-    put(head, view::SHOWN, &(rules.counted(count.shown, count.all) as u16).to_le_bytes());
-    put(head, view::RECORDS_AT, &(view::RECORDS as u16).to_le_bytes());
-    put(head, view::LENGTH, &(length as u16).to_le_bytes());
+    put(head, view::SHOWN, &rules.short_bytes(rules.counted(count.shown, count.all) as u16));
+    put(head, view::RECORDS_AT, &rules.short_bytes(view::RECORDS as u16));
+    put(head, view::LENGTH, &rules.short_bytes(length as u16));
     let shown_records = finished.store.iter().filter(|(_, record)| shows(record));
     for (part, (place, record)) in records.chunks_exact_mut(shown::LENGTH).zip(shown_records) {
         part[shown::PLACE] = place;
         part[shown::KIND] = record.kind as u8;
-        put(part, shown::LABEL, &label_bytes(record.label));
-        put(part, shown::VALUE, &content_bytes(record.content));
+        put(part, shown::LABEL, &label_bytes(record.label, rules));
+        put(part, shown::VALUE, &content_bytes(record.content, rules));
     }
 }
 
@@ -74,8 +74,8 @@ fn fill<R: Rules>(finished: &Finished, count: Count, reader: Label, view: &mut [
 fn write_run<R: Rules>(finished: &Finished, reader: Label, head: &mut [u8], rules: &R) {
     let hidden = !rules.flows(finished.label, reader);
     let (ending, result) = match finished.ending {
-        Ending::Result(value) => (1u16, content_bytes(Content::Value(value))),
-        Ending::Fault(fault) => (2, content_bytes(Content::Fault(fault))),
+        Ending::Result(value) => (1, content_bytes(Content::Value(value), rules)),
+        Ending::Fault(fault) => (2, content_bytes(Content::Fault(fault), rules)),
         Ending::Spent => (3, [0; VALUE_LENGTH]),
     };
     let mut part = |field: Field, at: usize, bytes: &[u8]| {
@@ -85,18 +85,18 @@ fn write_run<R: Rules>(finished: &Finished, reader: Label, head: &mut [u8], rule
             put(head, at, bytes);
         }
     };
-    part(Field::Ending, view::ENDING, &ending.to_le_bytes());
-    part(Field::Steps, view::STEPS, &finished.steps_used.to_le_bytes());
-    part(Field::NextPlace, view::NEXT_PLACE, &finished.next_place.to_le_bytes());
+    part(Field::Ending, view::ENDING, &rules.short_bytes(ending));
+    part(Field::Steps, view::STEPS, &rules.short_bytes(finished.steps_used));
+    part(Field::NextPlace, view::NEXT_PLACE, &rules.short_bytes(finished.next_place));
     part(Field::Result, view::RESULT, &result);
-    part(Field::Label, view::LABEL, &label_bytes(finished.label));
-    part(Field::Clearance, view::CLEARANCE, &label_bytes(finished.clearance));
+    part(Field::Label, view::LABEL, &label_bytes(finished.label, rules));
+    part(Field::Clearance, view::CLEARANCE, &label_bytes(finished.clearance, rules));
 }
 
 const VALUE_LENGTH: usize = view::LABEL - view::RESULT;
 const LABEL_LENGTH: usize = view::CLEARANCE - view::LABEL;
 
-fn content_bytes(content: Content) -> [u8; VALUE_LENGTH] {
+fn content_bytes<R: Rules>(content: Content, rules: &R) -> [u8; VALUE_LENGTH] {
     let (kind, first, second) = match content {
         Content::Value(Value::Number(number)) => (1, number.into(), 0),
         Content::Value(Value::Label(label)) => (2, label.secrecy, label.integrity),
@@ -106,15 +106,15 @@ fn content_bytes(content: Content) -> [u8; VALUE_LENGTH] {
     };
     let mut bytes = [0; VALUE_LENGTH];
     bytes[0] = kind;
-    put(&mut bytes, 2, &first.to_le_bytes());
-    put(&mut bytes, 10, &second.to_le_bytes());
+    put(&mut bytes, 2, &rules.word_bytes(first));
+    put(&mut bytes, 10, &rules.word_bytes(second));
     bytes
 }
 
-fn label_bytes(label: Label) -> [u8; LABEL_LENGTH] {
+fn label_bytes<R: Rules>(label: Label, rules: &R) -> [u8; LABEL_LENGTH] {
     let mut bytes = [0; LABEL_LENGTH];
-    put(&mut bytes, 0, &label.secrecy.to_le_bytes());
-    put(&mut bytes, 8, &label.integrity.to_le_bytes());
+    put(&mut bytes, 0, &rules.word_bytes(label.secrecy));
+    put(&mut bytes, 8, &rules.word_bytes(label.integrity));
     bytes
 }
 

@@ -1,4 +1,5 @@
-//! The call as a whole: refusals 8 and 9, and what it leaves of the buffer.
+//! The call as a whole: refusals 8 and 9, and what it leaves of the buffer; and what the
+//! line of a view leaves of one.
 
 use reference::limits::MAX_VIEW;
 use reference::opcode::{NEW, OPEN, POP};
@@ -35,6 +36,35 @@ fn the_view_fits_a_buffer_of_its_length_and_no_shorter_one() {
             }
         }
     }
+}
+
+#[test]
+fn the_line_fits_a_buffer_of_its_length_and_no_shorter_one() {
+    let file = two_records();
+    let lines = print::lines(&file);
+    for (reader, line) in lines.split_inclusive('\n').enumerate() {
+        let mut view = vec![0; MAX_VIEW];
+        let length = read(&file, reader, &mut view).expect("a valid file");
+        for size in 0..line.len() + 80 {
+            let mut buffer = vec![0xEE; size];
+            let answer = print::line(&view[..length], &mut buffer);
+            if size < line.len() {
+                assert_eq!(answer, None);
+                assert!(buffer.iter().all(|&byte| byte == 0xEE));
+            } else {
+                assert_eq!(answer, Some(line.len()));
+                assert_eq!(&buffer[..line.len()], line.as_bytes());
+                assert!(buffer[line.len()..].iter().all(|&byte| byte == 0xEE));
+            }
+        }
+    }
+}
+
+#[test]
+fn the_longest_line_is_that_of_the_longest_view() {
+    let mut text = String::new();
+    print::push_view(&mut text, &[0; MAX_VIEW]);
+    assert_eq!(text.len(), print::MAX_LINE);
 }
 
 #[test]
