@@ -1,11 +1,13 @@
 -- The views of a day on their way into the buffer, and how long they can get.
 use mathlib.Core.Bool.{Bool}
 use mathlib.Core.List.{List, _++_}
+use mathlib.Core.Logic.{⊎-elim}
 use mathlib.Core.Path.{_≡_, refl, sym, ap, _∙_}
 use Prim.Native.Nat.{ℕ, _+_, _-_, _*_, _≤_, _<_}
 use native.Mathlib.Omega.{arith}
-use lib.ListN.{length, replicate}
+use lib.ListN.{length, replicate, take, drop, length-drop, take-append-drop}
 use borrow.Author.Tests.{le-leb, lt-leb}
+use Rattle.formulas.proofs.Tests.{lt-or-ge}
 use Rattle.labels.specs.declared.Label.{Label}
 use Rattle.model.specs.State.{Store}
 use Rattle.model.specs.Inputs.{inputs, inputSlots}
@@ -17,9 +19,9 @@ use Rattle.store.specs.Slots.{words, slots}
 use Rattle.operands.specs.Program.{count}
 use Rattle.view_fields.specs.Fields.{littleEndian}
 use Rattle.view_fields.specs.Writing.{over, numbers}
-use Rattle.view_fields.proofs.Buffers.{part, back, back-over}
+use Rattle.view_fields.proofs.Buffers.{part, back, part-drop, back-over}
 use Rattle.view.specs.Layout.{view}
-use Rattle.view.specs.Writing.{finished}
+use Rattle.view.specs.Writing.{finished, shownIn}
 use Rattle.view.proofs.Widths.{length-view, view-finished}
 use Rattle.view.proofs.LengthField.{view-most}
 use Rattle.file_sections.specs.Sections.{inputsOf}
@@ -44,6 +46,24 @@ shown-fits at v b ys h e = back-over at b v ys e ∙ sym (rw (le-leb (at + lengt
 pub shown-not : (at : ℕ) (v b : List ℕ) → length b < at + length v → b ≡ shownAt at v b
 unfolding shownAt
 shown-not at v b h = rw (lt-leb (at + length v) (length b) h)
+
+-- the part from `at` on comes back with v shown in it
+pub shown-part : (at : ℕ) (v b ys : List ℕ) → at ≤ length b → ys ≡ shownIn v (part at b) → back at b ys ≡ shownAt at v b
+unfolding shownIn
+shown-part at v b ys h e =
+    ⊎-elim (λ s. ap (back at b) (none s) ∙ whole ∙ shown-not at v b s) (λ s. shown-fits at v b ys s (some s)) (lt-or-ge (length b) (at + length v))
+  where
+    long : length (part at b) ≡ length b - at
+    long = ap length (part-drop at b) ∙ length-drop at b
+
+    none : length b < at + length v → ys ≡ part at b
+    none s = e ∙ rw (lt-leb (length v) (length (part at b)) (omega (arith, long)))
+
+    some : at + length v ≤ length b → ys ≡ over v (part at b)
+    some s = e ∙ rw (le-leb (length v) (length (part at b)) (omega (arith, long)))
+
+    whole : back at b (part at b) ≡ b
+    whole = ap (λ (y : List ℕ). take at b ++ y) (take-append-drop (length b - at) (drop at b)) ∙ take-append-drop at b
 
 pub length-skipped : length skippedView ≡ 62
 unfolding skippedView littleEndian

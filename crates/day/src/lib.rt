@@ -8,6 +8,7 @@ use model::Finished;
 use model::Record;
 use model::Slot;
 use store::PLACES;
+use store::STORE;
 use view::Answer;
 use view::FINAL;
 use view::RECORDS;
@@ -165,11 +166,10 @@ fn show_run(
     requires { ⌜ (at < 2 ^ 32) × (length (now store) ≡ words) ⌝ }
     ensures { λ r. ⌜ (r ≡ length (viewOf (observes reader) steps (finished finish (slots (now (store .entry)))))) × (now (out .exit) ≡ shownAt at (viewOf (observes reader) steps (finished finish (slots (now (store .entry))))) (now (out .entry))) ⌝ }
 {
-    let n = view::view_length(reader, store);
-    if at + n <= out.len() {
-        view::write_view(reader, steps, finish, store, &mut out[at..]);
+    if out.len() < at {
+        return view::view_length(reader, store);
     }
-    n
+    view::show_view(reader, steps, finish, store, &mut out[at..])
 }
 
 // Runs a job that is admitted, shows it and ends it, and gives the length of its view.
@@ -205,7 +205,7 @@ fn write_views(file: &[u8], h: Header, labels: &[u64], reader: Label, out: &mut 
     let a = records.offset;
     let b = jobs.offset;
     let count = jobs.count;
-    let mut store = [0u64; 1536];
+    let mut store = [0u64; STORE];
     reading::place_inputs(&file[a..b], labels, &mut store);
     let mut left = h.steps;
     let mut at = 0;

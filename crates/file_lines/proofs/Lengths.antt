@@ -1,18 +1,16 @@
 -- How long a view, its line and the lines of a file get. Assumes nothing.
 use mathlib.Core.Bool.{Bool}
 use mathlib.Core.List.{List}
-use mathlib.Core.Path.{_≡_, sym, ap, _∙_}
+use mathlib.Core.Path.{_≡_, sym, ap}
 use Prim.Native.Nat.{ℕ, zero, suc, _+_, _*_, _≤_}
 use native.Mathlib.Nat.{le-refl}
 use native.Mathlib.Omega.{arith}
 use lib.ListN.{length, take, drop, length-append}
-use lib.Seq.{take-at}
 use Rattle.labels.specs.Order.{flows}
 use Rattle.labels.specs.declared.Label.{Label}
 use Rattle.model.specs.State.{Outcome}
 use Rattle.script_file.specs.Sections.{header, labelAt}
 use Rattle.script_file.specs.Program.{fileRun}
-use Rattle.view_fields.specs.Writing.{over}
 use Rattle.view.specs.Layout.{recordsShown, viewLength, view}
 use Rattle.view.specs.Reading.{fileView}
 use Rattle.view.proofs.Widths.{length-view}
@@ -21,18 +19,6 @@ use Rattle.lines.specs.Lines.{line, lines}
 use Rattle.lines.specs.Cutting.{Cut}
 use Rattle.lines.proofs.Printing.{length-line}
 use Rattle.file_lines.specs.Room.{longestLine}
-
--- ── a buffer ──
-
--- what is written over the start of a buffer is read back
-pub taken-back : (v b : List ℕ) (n : ℕ) → n ≡ length v → take n (over v b) ≡ v
-unfolding over
-taken-back v b n e = take-at v _ n (sym e)
-
--- and it is no longer than the buffer
-pub written-within : (v b out : List ℕ) → out ≡ over v b → length v ≤ length out
-unfolding over
-written-within v b out e = let f = ap length e ∙ length-append v (drop (length v) b) in omega arith
 
 -- ── a view ──
 

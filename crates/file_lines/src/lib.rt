@@ -5,8 +5,8 @@ use model::Finished;
 use script_file::Header;
 use script_file::Loaded;
 use store::PLACES;
-use view::RECORDS;
-use view_fields::RECORD;
+use store::STORE;
+use view::LONGEST;
 ghost use mathlib.Core.Path.{_≡_};
 ghost use Prim.Native.Nat.{_≤_};
 ghost use lib.ListN.{length};
@@ -19,11 +19,8 @@ ghost use Rattle.lines.specs.Lines.{line, lines as linesOf, printed};
 ghost use Rattle.reading.specs.Answers.{Loads};
 ghost use Rattle.file_lines.specs.Room.{mostPrinted};
 
-// The longest view shows a record at each place. Its line has two digits for each byte and a byte behind each field: 13
-// fields, and 7 of each record.
-const VIEW: usize = RECORDS + RECORD * PLACES;
-
-pub const LINE: usize = 13 + 7 * PLACES + 2 * VIEW;
+// The line of the longest view: two digits for each byte and a byte behind each field, 13 fields and 7 of each record.
+pub const LINE: usize = 13 + 7 * PLACES + 2 * LONGEST;
 
 // The lines of 32 labels, the most that a file has.
 pub const ROOM: usize = 32 * LINE;
@@ -40,9 +37,8 @@ pub fn write_shown(
     requires { ⌜ length (line (viewOf (observes reader) steps (finished finish (slots (now store))))) ≤ length (now out) ⌝ }
     ensures { λ r. ⌜ (r ≡ length (line (viewOf (observes reader) steps (finished finish (slots (now (store .entry))))))) × (now (out .exit) ≡ over (line (viewOf (observes reader) steps (finished finish (slots (now (store .entry)))))) (now (out .entry))) ⌝ }
 {
-    let mut view = [0u8; VIEW];
-    let n = view::view_length(reader, store);
-    view::write_view(reader, steps, finish, store, &mut view);
+    let mut view = [0u8; LONGEST];
+    let n = view::show_view(reader, steps, finish, store, &mut view);
     lines::write_line(&view[..n], out)
 }
 
@@ -51,7 +47,7 @@ fn write_lines(file: &[u8], h: Header, labels: &[u64], out: &mut [u8]) -> usize
     requires { ⌜ Loads (now file) h (now labels) × (length (now labels) ≡ 64) × (mostPrinted ≤ length (now out)) ⌝ }
     ensures { λ r. ⌜ (r ≡ length (linesOf (now (file .entry)) (header (now (file .entry)) .labels .count) 0)) × (now (out .exit) ≡ over (linesOf (now (file .entry)) (header (now (file .entry)) .labels .count) 0) (now (out .entry))) ⌝ }
 {
-    let mut store = [0u64; 1536];
+    let mut store = [0u64; STORE];
     let finish = reading::run_file(file, h, labels, &mut store);
     let listed = h.labels;
     let count = listed.count;

@@ -54,7 +54,7 @@ fn write_hex(bytes: &[u8], out: &mut [u8])
     let mut i = 0;
     while i < bytes.len() {
         let b = bytes[i];
-        view_fields::write_pair(hex_digit(b / 16), hex_digit(b % 16), &mut out[at..]);
+        view_fields::write_pair(hex_digit(b >> 4), hex_digit(b & 15), &mut out[at..]);
         at += 2;
         i += 1;
     }
@@ -120,6 +120,14 @@ pub fn write_line(view: &[u8], out: &mut [u8]) -> usize
     let end = last + write_record_fields(n, &view[records..], &mut out[last..]);
     out[end] = b'\n';
     end + 1
+}
+
+// How many bytes the line of a view has: two digits for each byte that is there, and a byte behind each field.
+pub fn line_length(view: &[u8]) -> usize
+    ensures { λ r. ⌜ r ≡ length (line (now (view .entry))) ⌝ }
+{
+    let n = records_in(view);
+    13 + 7 * n + 2 * cut(RECORDS + RECORD * n, view)
 }
 
 pub fn write_bytes(bytes: &[u8], out: &mut [u8])

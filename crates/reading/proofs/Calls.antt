@@ -31,7 +31,7 @@ use Rattle.script_file.proofs.Findings.{recordsIn, codeIn, records-in, code-in}
 use Rattle.view.specs.Layout.{view}
 use Rattle.view.specs.Reading.{Reading, refuse, show, reading, fileView}
 use Rattle.view_fields.specs.Writing.{over}
-use Rattle.view.specs.Writing.{observes, finished}
+use Rattle.view.specs.Writing.{observes, finished, shownIn}
 use Rattle.view.proofs.Widths.{view-finished}
 use Rattle.reading.specs.Answers.{reads, codeOf, Loads}
 use Rattle.view.specs.declared.Answer.{Answer}
@@ -41,12 +41,14 @@ use Rattle.reading.proofs.Parts.{labels-are, records-length, records-co
 
 -- ── the view and the buffer ──
 
-pub show-short : (v b : List ℕ) → length b < length v → refuse 9 b ≡ show v b
-show-short v b h = rw (lt-leb (length v) (length b) h)
+module _ (v b out : List ℕ) (e : out ≡ shownIn v b) where
+  pub show-short : length b < length v → refuse 9 out ≡ show v b
+  unfolding shownIn
+  show-short h = rw (e, lt-leb (length v) (length b) h)
 
-pub show-whole : (v b out : List ℕ) (n : ℕ) → length v ≤ length b → n ≡ length v → out ≡ over v b → record { answer = Viewed n; buffer = out } ≡ show v b
-unfolding over
-show-whole v b out n h e f = rw (e, f, le-leb (length v) (length b) h)
+  pub show-whole : (n : ℕ) → length v ≤ length b → n ≡ length v → record { answer = Viewed n; buffer = out } ≡ show v b
+  unfolding shownIn over
+  show-whole n h f = rw (f, e, le-leb (length v) (length b) h)
 
 -- ── the run ──
 

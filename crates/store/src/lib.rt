@@ -11,10 +11,12 @@ ghost use Rattle.model.specs.State.{at};
 ghost use Rattle.store.specs.Slots.{words, kindWord, contentsIn, slotOf, slots};
 ghost use Rattle.store.specs.Records.{recordLabel, recordValue, rewritten};
 
-// How many places there are, and how many words each has: kind, label (two), and contents (three).
+// How many places there are, how many words each has: kind, label (two), and contents (three); and a store's words.
 pub const PLACES: usize = 256;
 
 const WIDTH: usize = 6;
+
+pub const STORE: usize = WIDTH * PLACES;
 
 // The words of a record's contents: what they are, and two words of it.
 struct Words {
@@ -141,7 +143,7 @@ fn contents_of(tag: u64, first: u64, second: u64) -> Contents
 fn low(x: u64) -> u32
     ensures { λ r. ⌜ r ≡ Rattle.store.specs.Slots.low x ⌝ }
 {
-    (x % 4294967296) as u32
+    (x & 0xFFFFFFFF) as u32
 }
 
 // ---- writing: what is written is what is read back

@@ -1,10 +1,9 @@
 -- The loops over the places of the store: what is left of the records from place p on. Assumes nothing.
-use mathlib.Core.Path.{_≡_, refl, sym, ap, _∙_}
+use mathlib.Core.Path.{_≡_, refl, sym, ap, subst, _∙_}
 use mathlib.Core.Bool.{Bool}
 use mathlib.Core.List.{List, [], _∷_, _++_}
 use Prim.Native.Nat.{ℕ, _+_, _*_, _≤_, _<_}
 use native.Mathlib.Numerals.{add-one}
-use native.Mathlib.Nat.{zero-add}
 use native.Mathlib.Omega.{arith}
 use lib.ListN.{length, drop, drop-of-length-le}
 use lib.Seq.{drop-cons}
@@ -46,52 +45,63 @@ module _ (Reads : Label → Bool) (l : List ℕ) where
       ap (recordFields Reads p) (here p h)
       ∙ ap (λ (k : ℕ). slotField p (shown Reads (at (slots l) p)) ++ recordFields Reads k (drop (p + 1) (slots l))) (sym (add-one p))
 
-  -- the records before place p are written, up to byte i, and there is room for the others
-  pub record Written (b₀ b : List ℕ) (i p : ℕ) : Type 0 where
+  -- the records before place p are written, n of them, and there is room for all
+  pub record Written (b₀ b : List ℕ) (n p : ℕ) : Type 0 where
     pub place : p ≤ places
-    pub room : i + recordWidth * recordsShown Reads (drop p (slots l)) ≤ length b₀
-    pub writing : Writing (recordFields Reads 0 (slots l)) (recordFields Reads p (drop p (slots l))) b₀ b i
+    pub few : n ≤ p
+    pub room : recordWidth * recordsShown Reads (slots l) ≤ length b₀
+    pub count : n + recordsShown Reads (drop p (slots l)) ≡ recordsShown Reads (slots l)
+    pub writing : Writing (recordFields Reads 0 (slots l)) (recordFields Reads p (drop p (slots l))) b₀ b (recordWidth * n)
 
   pub none-yet : (b : List ℕ) → recordWidth * recordsShown Reads (slots l) ≤ length b → Written b b 0 0
-  none-yet b h = record { place = omega arith; room = omega arith; writing = start refl }
+  none-yet b h = record { place = omega arith; few = omega arith; room = h; count = omega arith; writing = start refl }
 
-  pub all-written : {b₀ b : List ℕ} {i p : ℕ} → Written b₀ b i p → places ≤ p → b ≡ over (recordFields Reads 0 (slots l)) b₀
-  unfolding recordFields
-  all-written {p = p} w h = ends (w .writing) (ap (recordFields Reads p) (nothing p h))
+  module _ {b₀ b : List ℕ} {n p : ℕ} (w : Written b₀ b n p) where
+    pub all-counted : places ≤ p → n ≡ recordsShown Reads (slots l)
+    all-counted h = let none = count-nothing p h in omega (arith, w .count)
 
-  module _ {b₀ b : List ℕ} {i p : ℕ} (w : Written b₀ b i p) (h : p < places) where
-    pub room-here : (r : Record) → shown Reads (at (slots l) p) ≡ Full r → i + recordWidth + recordWidth * recordsShown Reads (drop (p + 1) (slots l)) ≤ length b₀
-    room-here r e =
-        let f : recordsShown Reads (drop p (slots l)) ≡ 1 + recordsShown Reads (drop (p + 1) (slots l)) =
-        count-here p h ∙ ap (λ (x : Slot). one x + recordsShown Reads (drop (p + 1) (slots l))) e
-        in
-        omega (arith, w .room)
+    pub all-written : places ≤ p → b ≡ over (recordFields Reads 0 (slots l)) b₀
+    unfolding recordFields
+    all-written h = ends (w .writing) (ap (recordFields Reads p) (nothing p h))
 
-    -- the record at p is shown, and written over the part from i on
-    pub written-here : (r : Record) → shown Reads (at (slots l) p) ≡ Full r → {ys : List ℕ} → ys ≡ over (recordField p r) (part i b)
-        → Written b₀ (back i b ys) (i + recordWidth) (p + 1)
-    unfolding slotField
-    written-here r e q =
-        record {
-          place = omega arith;
-          room = room-here r e;
-          writing =
-              piece (w .writing) (recordField p r) (fields-here p h ∙ ap (λ (x : Slot). slotField p x ++ recordFields Reads (p + 1) (drop (p + 1) (slots l))) e)
-              (length-record p r) (let f = room-here r e in omega arith) q;
-        }
+  module _ {b₀ b : List ℕ} {n p : ℕ} (w : Written b₀ b n p) (h : p < places) where
+    -- what the slot at p adds to the count, if x is shown of it
+    count-next : (x : Slot) → shown Reads (at (slots l) p) ≡ x → n + one x + recordsShown Reads (drop (p + 1) (slots l)) ≡ recordsShown Reads (slots l)
+    count-next x e =
+        let f = count-here p h ∙ ap (λ (y : Slot). one y + recordsShown Reads (drop (p + 1) (slots l))) e in
+        omega (arith, w .count)
+
+    fields-next : (x : Slot) → shown Reads (at (slots l) p) ≡ x
+        → recordFields Reads p (drop p (slots l)) ≡ slotField p x ++ recordFields Reads (p + 1) (drop (p + 1) (slots l))
+    fields-next x e = fields-here p h ∙ ap (λ (y : Slot). slotField p y ++ recordFields Reads (p + 1) (drop (p + 1) (slots l))) e
+
+    module _ (r : Record) (e : shown Reads (at (slots l) p) ≡ Full r) where
+      pub room-here : recordWidth * n + recordWidth ≤ length b₀
+      room-here = let f = count-next (Full r) e in omega (arith, w .room)
+
+      -- the record at p is shown, and written behind the n before it
+      pub written-here : {ys : List ℕ} → ys ≡ over (recordField p r) (part (recordWidth * n) b) → Written b₀ (back (recordWidth * n) b ys) (n + 1) (p + 1)
+      unfolding slotField
+      written-here {ys} q =
+          record {
+            place = omega arith;
+            few = omega (arith, w .few);
+            room = w .room;
+            count = count-next (Full r) e;
+            writing =
+                subst (Writing (recordFields Reads 0 (slots l)) (recordFields Reads (p + 1) (drop (p + 1) (slots l))) b₀ (back (recordWidth * n) b ys))
+                (let f : recordWidth * n + recordWidth ≡ recordWidth * (n + 1) = omega arith in f)
+                (piece (w .writing) (recordField p r) (fields-next (Full r) e) (length-record p r) room-here q);
+          }
 
     -- nothing is shown of place p
-    pub hidden-here : shown Reads (at (slots l) p) ≡ Empty → Written b₀ b i (p + 1)
+    pub hidden-here : shown Reads (at (slots l) p) ≡ Empty → Written b₀ b n (p + 1)
     unfolding slotField
     hidden-here e =
-        let f : recordsShown Reads (drop p (slots l)) ≡ recordsShown Reads (drop (p + 1) (slots l)) =
-        count-here p h ∙ ap (λ (x : Slot). one x + recordsShown Reads (drop (p + 1) (slots l))) e ∙ zero-add _
-        in
-        let g : recordFields Reads p (drop p (slots l)) ≡ recordFields Reads (p + 1) (drop (p + 1) (slots l)) =
-        fields-here p h ∙ ap (λ (x : Slot). slotField p x ++ recordFields Reads (p + 1) (drop (p + 1) (slots l))) e
-        in
         record {
           place = omega arith;
-          room = omega (arith, w .room);
-          writing = rw g at (w .writing);
+          few = omega (arith, w .few);
+          room = w .room;
+          count = let f = count-next Empty e in omega arith;
+          writing = rw (fields-next Empty e) at (w .writing);
         }

@@ -16,7 +16,7 @@ ghost use Rattle.store.specs.Slots.{words, slots};
 ghost use Rattle.view_fields.specs.Fields.{recordWidth};
 ghost use Rattle.view_fields.specs.Writing.{over};
 ghost use Rattle.view.specs.Layout.{recordFields, recordsShown, counts, final, viewLength, view};
-ghost use Rattle.view.specs.Writing.{observes, closing, finished};
+ghost use Rattle.view.specs.Writing.{observes, closing, finished, shownIn};
 
 // What a read comes to.
 pub enum Answer {
@@ -34,6 +34,9 @@ pub const SHOWN: usize = 3 * NUMBER;
 pub const RESULT: usize = 6 * NUMBER;
 
 pub const RECORDS: usize = RESULT + FINAL;
+
+// The longest view shows a record at each place.
+pub const LONGEST: usize = RECORDS + RECORD * PLACES;
 
 // Of what stands at RESULT: the label, the clearance, and the width of all three.
 const FINAL_LABEL: usize = VALUE;
@@ -83,24 +86,25 @@ fn records_shown(reader: Label, store: &[u64]) -> usize
     n
 }
 
-// Writes the records that the reader is shown, by rising place.
-fn write_records(reader: Label, store: &[u64], out: &mut [u8])
+// Writes the records that the reader is shown, by rising place, and gives how many they are.
+fn write_records(reader: Label, store: &[u64], out: &mut [u8]) -> usize
     requires { ⌜ length (now store) ≡ words ⌝ }
     requires { ⌜ recordWidth * recordsShown (observes reader) (slots (now store)) ≤ length (now out) ⌝ }
-    ensures { λ _. ⌜ now (out .exit) ≡ over (recordFields (observes reader) 0 (slots (now (store .entry)))) (now (out .entry)) ⌝ }
+    ensures { λ r. ⌜ (r ≤ 256) × (r ≡ recordsShown (observes reader) (slots (now (store .entry)))) × (now (out .exit) ≡ over (recordFields (observes reader) 0 (slots (now (store .entry)))) (now (out .entry))) ⌝ }
 {
-    let mut at = 0;
+    let mut n = 0;
     let mut p = 0;
     while p < PLACES {
         match shown(reader, store::load(store, p)) {
             Slot::Full(r) => {
-                view_fields::write_record(p as u8, r, &mut out[at..]);
-                at += RECORD;
+                view_fields::write_record(p as u8, r, &mut out[RECORD * n..]);
+                n += 1;
             }
             Slot::Empty => {}
         }
         p += 1;
     }
+    n
 }
 
 // ---- the view
@@ -159,20 +163,39 @@ fn write_final(reader: Label, finish: Finished, out: &mut [u8])
     }
 }
 
-// Writes the view of a run that was given `steps` steps, and leaves the buffer behind it as it was.
-pub fn write_view(reader: Label, steps: usize, finish: Finished, store: &[u64], out: &mut [u8])
+// Writes the view of a run that was given `steps` steps, leaves the buffer behind it as it was, and gives its length. The
+// records come first, since only then it is known how many there are: so each place is looked at once.
+fn write_view(reader: Label, steps: usize, finish: Finished, store: &[u64], out: &mut [u8]) -> usize
     requires { ⌜ length (now store) ≡ words ⌝ }
     requires { ⌜ viewLength (observes reader) (slots (now store)) ≤ length (now out) ⌝ }
-    ensures { λ _. ⌜ now (out .exit) ≡ over (view (observes reader) steps (finished finish (slots (now (store .entry))))) (now (out .entry)) ⌝ }
+    ensures { λ r. ⌜ (r ≡ viewLength (observes reader) (slots (now (store .entry)))) × (now (out .exit) ≡ over (view (observes reader) steps (finished finish (slots (now (store .entry))))) (now (out .entry))) ⌝ }
 {
-    let n = records_shown(reader, store);
+    let n = write_records(reader, store, &mut out[RECORDS..]);
+    let length = RECORDS + RECORD * n;
     write_counts(reader, steps, finish, out);
-    view_fields::write_numbers(
-        n as u64,
-        RECORDS as u64,
-        (RECORDS + RECORD * n) as u64,
-        &mut out[SHOWN..],
-    );
+    view_fields::write_numbers(n as u64, RECORDS as u64, length as u64, &mut out[SHOWN..]);
     write_final(reader, finish, &mut out[RESULT..]);
-    write_records(reader, store, &mut out[RECORDS..]);
+    length
+}
+
+// The same if the buffer holds the view; else the buffer stays as it was. One that holds the longest view needs no counting
+// first.
+pub fn show_view(
+    reader: Label,
+    steps: usize,
+    finish: Finished,
+    store: &[u64],
+    out: &mut [u8],
+) -> usize
+    requires { ⌜ length (now store) ≡ words ⌝ }
+    ensures { λ r. ⌜ (r ≡ viewLength (observes reader) (slots (now (store .entry)))) × (now (out .exit) ≡ shownIn (view (observes reader) steps (finished finish (slots (now (store .entry))))) (now (out .entry))) ⌝ }
+{
+    if LONGEST <= out.len() {
+        return write_view(reader, steps, finish, store, out);
+    }
+    let n = view_length(reader, store);
+    if out.len() < n {
+        return n;
+    }
+    write_view(reader, steps, finish, store, out)
 }

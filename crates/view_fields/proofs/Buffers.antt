@@ -5,9 +5,28 @@ use Prim.Native.Nat.{ℕ, _+_, _-_, _≤_, _<_}
 use native.Mathlib.Numerals.{add-one}
 use native.Mathlib.Nat.{zero-add}
 use native.Mathlib.Omega.{arith}
-use lib.ListN.{length, take, drop, set, length-append, length-take, length-drop, take-append-drop, drop-of-length-le}
-use lib.Seq.{length-take-le, take-all, take-at, drop-at, drop-drop, set-split}
+use lib.ListN.{length, getD, take, drop, set, length-append, length-take, length-drop, take-append-drop, drop-of-length-le}
+use lib.Seq.{drop-cons, length-take-le, take-all, take-at, drop-at, drop-drop, set-split}
 use Rattle.view_fields.specs.Writing.{over}
+
+-- what is as long as the buffer takes all of it
+pub over-all : (v b : List ℕ) → length b ≤ length v → over v b ≡ v
+unfolding over
+over-all v b h = ap (λ (z : List ℕ). v ++ z) (drop-of-length-le b {i = length v} h) ∙ append-nil v
+
+-- the element at i, and those behind it
+pub from-here : (xs : List ℕ) (i : ℕ) → i < length xs → drop i xs ≡ getD xs i 0 ∷ drop (i + 1) xs
+from-here xs i h = drop-cons xs i 0 h ∙ ap (λ (k : ℕ). getD xs i 0 ∷ drop k xs) (sym (add-one i))
+
+-- n bytes that were written over the start of a buffer lie within it, and are read back from there
+module _ (v b : List ℕ) {n : ℕ} (e : n ≡ length v) where
+  pub written-within : {out : List ℕ} → out ≡ over v b → n ≤ length out
+  unfolding over
+  written-within f = let g = ap length f ∙ length-append v (drop (length v) b) in omega (arith, e, g)
+
+  pub taken-back : {out : List ℕ} → out ≡ over v b → take n out ≡ v
+  unfolding over
+  taken-back f = ap (take n) f ∙ take-at v (drop (length v) b) n (sym e)
 
 -- The buffer was b₀ and is b, written up to i. Once `left` is written too, from i on, it is b₀ with `whole` over its start.
 pub record Writing (whole left b₀ b : List ℕ) (i : ℕ) : Type 0 where
@@ -33,6 +52,12 @@ back-over i b xs ys r =
   where
     none : drop (length b - i) (drop i b) ≡ []
     none = drop-of-length-le (drop i b) {i = length b - i} (let z = length-drop i b in omega arith)
+
+pub length-back : (i : ℕ) (b ys : List ℕ) → i ≤ length b → length ys ≡ length (part i b) → length (back i b ys) ≡ length b
+length-back i b ys h e =
+    let rest = drop (length b - i) (drop i b) in
+    length-append (take i b) (ys ++ rest) ∙ ap₂ (λ (x y : ℕ). x + y) (length-take-le i b h) (length-append ys rest)
+    ∙ simp (e, part-drop i b, length-drop) (omega arith)
 
 pub start : {whole left b : List ℕ} → left ≡ whole → Writing whole left b b 0
 start {b = b} e = record { room = omega arith; same = refl; count = let f = ap length e in omega arith; rest = ap (λ (v : List ℕ). over v b) (sym e) }
@@ -119,6 +144,18 @@ module _ {whole left b₀ b : List ℕ} {i : ℕ} (w : Writing whole left b₀ b
 -- the first piece: the whole buffer is lent
 pub first : {whole l b : List ℕ} (xs : List ℕ) → whole ≡ xs ++ l → {n : ℕ} → length xs ≡ n → n ≤ length b → {b′ : List ℕ} → b′ ≡ over xs b → Writing whole l b b′ n
 first {whole} {l} {b} xs d {n} e h {b′} q = rw zero-add at (more (start {whole = whole} {b = b} refl) xs l d n e (omega arith) b′ q)
+
+-- Two pieces of which the one behind is written first: its part from k on came back as b₁, and then xs, k bytes, is
+-- written over the start.
+pub before : (xs ys b : List ℕ) {k : ℕ} → length xs ≡ k → k ≤ length b → {b₁ : List ℕ} → b₁ ≡ over ys (part k b) → over xs (back k b b₁) ≡ over (xs ++ ys) b
+unfolding over
+before xs ys b {k} e h {b₁} q =
+    ap (λ (z : List ℕ). xs ++ z) (ap (drop (length xs)) (back-over k b ys b₁ q) ∙ drop-at (take k b) (over ys (drop k b)) (length xs) (length-take-le k b h ∙ sym e))
+    ∙ sym (append-assoc xs ys (drop (length ys) (drop k b)))
+    ∙ ap (λ (z : List ℕ). (xs ++ ys) ++ z) (drop-drop (length ys) k b ∙ ap (λ (n : ℕ). drop n b) long)
+  where
+    long : k + length ys ≡ length (xs ++ ys)
+    long = let a = length-append xs ys in omega arith
 
 -- Two pieces, one behind the other: the first into the whole buffer, the other into the part behind it.
 pub two : (xs ys b : List ℕ) {k m : ℕ} → length xs ≡ k → length ys ≡ m → k + m ≤ length b

@@ -54,8 +54,8 @@ fn write_number(n: u64, width: usize, out: &mut [u8])
     let mut rest = n;
     let mut i = 0;
     while i < width {
-        out[i] = (rest % 256) as u8;
-        rest = rest / 256;
+        out[i] = (rest & 255) as u8;
+        rest = rest >> 8;
         i += 1;
     }
 }

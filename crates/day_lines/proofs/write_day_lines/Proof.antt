@@ -1,32 +1,36 @@
 -- `day_lines::write_day_lines` meets its contract. The loop's invariant is `Served`.
+use mathlib.Core.Bool.{Bool}
 use mathlib.Core.List.{List}
-use mathlib.Core.Logic.{⊎-elim}
-use mathlib.Core.Path.{_≡_, refl, sym, ap, subst, _∙_}
+use mathlib.Core.Path.{_≡_, ap, ap₂, subst, _∙_}
 use Prim.Native.Nat.{ℕ, _+_, _-_, _*_, _≤_, _<_}
 use native.Mathlib.Omega.{arith}
-use lib.ListN.{length}
-use Rattle.reading.proofs.Calls.{no-records}
+use lib.ListN.{length, getD, take, drop}
 use Rattle.labels.specs.declared.Label.{Label}
+use Rattle.view_fields.specs.Writing.{over}
+use Rattle.view_fields.proofs.Buffers.{part}
 use Rattle.view.specs.Writing.{observes}
+use Rattle.lines.specs.Lines.{line}
 use Rattle.file_lines.specs.Room.{longestLine}
 use Rattle.day_file.specs.declared.Header.{Header}
 use Rattle.day_file.specs.declared.Job.{Job}
 use Rattle.day_file.specs.Sections.{dayHeader, jobFrom}
 use Rattle.day_file.specs.Parts.{DayLoads}
 use Rattle.day_file.proofs.Answers.{few-jobs, most-bytes}
-use Rattle.day.specs.Parts.{Runnable}
-use Rattle.day.proofs.Jobs.{ordered, labels-are, records-short, job-runs}
-use Rattle.day.proofs.Views.{inputs-placed}
-use Rattle.day_lines.proofs.Jobs.{jobAt, Served, none-served, room-here, skipped-line, one-skipped, one-ran, all-served, lines-are}
+use Rattle.day.specs.Running.{Turn}
+use Rattle.day.specs.Views.{turnView}
+use Rattle.day.proofs.Jobs.{ordered, labels-are}
+use Rattle.day_turns.specs.Keeping.{none, turnOf, storeAt}
+use Rattle.day_turns.proofs.Stores.{length-part, part-is}
+use Rattle.day_lines.proofs.Jobs.{Served, none-served, room-here, one-more, all-served, lines-are}
 use borrow.Author.Needs.{needs}
 use Rattle.day_lines.proofs.write_day_lines.Statement.{statement}
 use Rattle.day_lines.proofs.write_day_lines.Tie as tie
 
 abbrev Inv-loop : tie.InvT-loop
-Inv-loop file h labels reader out₀ a b count label store₀ left₀ at₀ k₀ out store left at k = Served (observes label) file out₀ out store left at k
+Inv-loop file labels stores reader out₀ b count label all at₀ k₀ out at k = Served (observes label) file out₀ out at k
 
 abbrev μ-loop : tie.MeasureT-loop
-μ-loop file h labels reader out₀ a b count label store₀ left₀ at₀ k₀ out store left at k = count - k
+μ-loop file labels stores reader out₀ b count label all at₀ k₀ out at k = count - k
 
 abbrev Begun : Type 0
 Begun = tie.Start Inv-loop μ-loop
@@ -54,9 +58,6 @@ module _ (b : Begun) where
   abbrev loads : DayLoads bs h ws
   loads = b .pre .0
 
-  first : h .records .offset ≤ h .jobs .offset
-  first = omega (arith, ordered bs h ws loads .jobs)
-
   within : h .jobs .offset ≤ length bs
   within = omega (arith, ordered bs h ws loads .code, ordered bs h ws loads .whole)
 
@@ -68,18 +69,7 @@ module _ (b : Begun) where
 
   -- there is room for the lines of all jobs
   room : longestLine * dayHeader bs .jobs .count ≤ length (b .args .out .now)
-  room = omega (arith, few-all, b .pre .2)
-
-place-inputs-requires : tie.Need-place-inputs-requires Inv-loop μ-loop
-place-inputs-requires c κs =
-    let b : Begun = search in (omega (arith, records-short (bs b) (h b) (ws b) (loads b)), b .pre .1, refl, no-records)
-
-loop-holds : tie.Need-loop-holds Inv-loop μ-loop
-loop-holds c =
-    let p : tie.After-place-inputs Inv-loop μ-loop = search in
-    let b : Begun = search in
-    none-served _ (bs b) _ _ _ (ap (λ (g : Header). g .steps) (loads b .numbers)) (p .place-inputs .kept .1 .1 .0)
-    (inputs-placed (bs b) (h b) (ws b) (loads b) _ (p .place-inputs .ensures))
+  room = omega (arith, few-all, b .pre .4)
 
 -- job k of the day
 module _ (i : Inside) where
@@ -98,51 +88,52 @@ module _ (i : Inside) where
   below-all : k < dayHeader (bs begun) .jobs .count
   below-all = rw (← loads begun .numbers) below
 
+  small : k < 16
+  small = omega (arith, below, few begun)
+
   starts-below : h begun .jobs .offset + 12 * k < 70000
   starts-below = omega (arith, below, few begun, within begun, most-bytes (bs begun) (loads begun .none))
 
   at-below : head .loop .at ≤ 325776
   at-below = omega (arith, head .loop .inv .few, below, few begun)
 
-module _ (a : tie.After-job-at Inv-loop μ-loop) where
+  -- its store is there
+  there : 1536 * k + 1536 ≤ length (begun .args .stores .now)
+  there = omega (arith, small, begun .pre .3)
+
+write-job-line-requires : tie.Need-write-job-line-requires Inv-loop μ-loop
+write-job-line-requires c κs =
+    let i : Inside = search in
+    let b = begun i in
+    (length-part (b .args .stores .now) (k i) (there i), room-here _ _ (b .pre .2) (head i .loop .inv) (room b) (below-all i))
+
+-- the line of job k is written
+module _ (w : tie.After-write-job-line Inv-loop μ-loop) where
   abbrev inside : Inside
   inside = search
 
-  abbrev labelled : Labelled
-  labelled = search
+  abbrev job-read : tie.After-job-at Inv-loop μ-loop
+  job-read = search
 
-  is-job : a .job-at .result ≡ jobAt (observes (labelled .label-at .result)) (bs (begun inside)) (k inside)
-  is-job = a .job-at .ensures .0 ∙ ap (λ (g : Header). jobFrom (bs (begun inside)) (g .jobs .offset + 12 * k inside)) (loads (begun inside) .numbers)
+  -- what is kept of the job, as the code has it and as the definition says
+  turn-is : turnOf (job-read .job-at .result .steps) (getD (begun inside .args .ends .jobs) (k inside) none) (take (1536 * k inside + 1536 - 1536 * k inside) (drop (1536 * k inside) (begun inside .args .stores .now)))
+      ≡ turnOf (jobFrom (bs (begun inside)) (dayHeader (bs (begun inside)) .jobs .offset + 12 * k inside) .steps) (getD (begun inside .args .ends .jobs) (k inside) none) (storeAt (k inside) (begun inside .args .stores .now))
+  turn-is =
+      ap₂ (λ (s : ℕ) (ws : List ℕ). turnOf s (getD (begun inside .args .ends .jobs) (k inside) none) ws)
+      (ap (λ (j : Job). j .steps) (job-read .job-at .ensures .0 ∙ ap (λ (g : Header). jobFrom (bs (begun inside)) (g .jobs .offset + 12 * k inside)) (loads (begun inside) .numbers)))
+      (part-is (begun inside .args .stores .now) (k inside) (there inside))
 
-  runs : Runnable (h (begun inside)) (a .job-at .result) (bs (begun inside))
-  runs =
-      subst (λ (x : Job). Runnable (h (begun inside)) x (bs (begun inside))) (sym (a .job-at .ensures .0))
-      (job-runs (bs (begun inside)) (h (begun inside)) (ws (begun inside)) (loads (begun inside)) (k inside) (below inside))
-
-write-skipped-line-requires : tie.Need-write-skipped-line-requires Inv-loop μ-loop
-write-skipped-line-requires c κs =
-    let i : Inside = search in
-    omega (arith, skipped-line, room-here _ _ (head i .loop .inv) (room (begun i)) (below-all i))
-
-serve-job-requires : tie.Need-serve-job-requires Inv-loop μ-loop
-serve-job-requires c κs =
-    let a : tie.After-job-at Inv-loop μ-loop = search in
-    let i = inside a in
-    let b = begun i in
-    (loads b, b .pre .1, head i .loop .inv .size, runs a, room-here _ _ (head i .loop .inv) (room b) (below-all i))
+  abbrev R : Label → Bool
+  R = let l : Labelled = search in observes (l .label-at .result)
 
 loop-again : tie.Need-loop-again Inv-loop μ-loop
 loop-again c =
-    let a : tie.After-job-at Inv-loop μ-loop = search in
-    let i = inside a in
-    let v = head i .loop .inv in
-    let space = room (begun i) in
-    ⊎-elim
-    (λ w. rw (w .5, w .6, w .7, w .8) (one-skipped _ _ v space (below-all i) (is-job a) (w .0 .taken) (w .2 .ensures .0) (w .2 .ensures .1)))
-    (λ w. rw (w .8, w .9, w .10, w .11)
-    (one-ran _ _ v space (below-all i) (is-job a) (omega (arith, w .0 .left)) (w .4 .kept .1 .1 .1 .1 .1 .0 ∙ v .size) (w .4 .ensures .2)
-    (w .4 .ensures .0) (w .4 .ensures .1) (w .4 .ensures .3)))
-    (c .if1 .came)
+    let w : tie.After-write-job-line Inv-loop μ-loop = search in
+    let i = inside w in
+    let b = begun i in
+    one-more _ _ (b .pre .2) (head i .loop .inv) (room b) (below-all i) (w .write-job-line .ensures .0)
+    (w .write-job-line .ensures .1 ∙ ap (λ (t : Turn). length (line (turnView (R w) t))) (turn-is w))
+    (w .write-job-line .ensures .2 ∙ ap (λ (t : Turn). over (line (turnView (R w) t)) (part (head i .loop .at) (head i .loop .out))) (turn-is w))
 
 returns : tie.Need-returns Inv-loop μ-loop
 returns c =
@@ -151,7 +142,7 @@ returns c =
     let b : Begun = search in
     let e = l .label-at .ensures ∙ ap (λ (ls : ℕ → Label). ls (b .args .reader)) (labels-are (bs b) (h b) (ws b) (loads b)) in
     let past = subst (λ (g : Header). g .jobs .count ≤ t .loop .k) (loads b .numbers) (omega (arith, c .loop-test .left)) in
-    rw (lines-are (bs b) (b .args .reader) (l .label-at .result) e) at (all-served _ _ (t .loop .inv) past)
+    rw (lines-are (bs b) (b .args .reader) (l .label-at .result) e) at (all-served _ _ (b .pre .2) (t .loop .inv) past)
 
 pub write-day-lines-spec : {M : Type 1} → statement M
 write-day-lines-spec =
@@ -160,28 +151,25 @@ write-day-lines-spec =
     Inv-loop
     μ-loop
     (λ c κs. let b : Begun = search in omega (arith, b .pre .1))
-    (λ c. omega (arith, first (search)))
-    (λ c. omega (arith, first (search)))
-    (λ c. omega (arith, within (search)))
-    (search needs)
-    place-inputs-requires
-    loop-holds
+    (λ c. none-served _ _ _)
     (λ c. omega (arith, starts-below (search)))
     (λ c. omega (arith, starts-below (search)))
     (λ c κs. omega (arith, starts-below (search)))
-    (λ c. let h : Head = search in h .loop .inv .writing .room)
-    (λ c. let h : Head = search in h .loop .inv .writing .room)
+    (λ c. omega (arith, small (search)))
+    (λ c. omega (arith, small (search)))
+    (λ c. omega (arith, small (search)))
+    (λ c. omega (arith, small (search)))
+    (λ c. omega (arith, small (search)))
+    (λ c. omega arith)
+    (λ c. omega (arith, there (search)))
+    (λ c. omega (arith, there (search)))
+    (λ c. let t : Head = search in t .loop .inv .writing .room)
+    (λ c. let t : Head = search in t .loop .inv .writing .room)
     (search needs)
-    write-skipped-line-requires
-    (λ c. let s : tie.After-write-skipped-line Inv-loop μ-loop = search in omega (arith, s .write-skipped-line .ensures .0, skipped-line, at-below (search)))
-    (λ c. let i : Inside = search in sym (head i .loop .inv .size))
-    (λ c. let h : Head = search in h .loop .inv .writing .room)
-    (λ c. let h : Head = search in h .loop .inv .writing .room)
-    (search needs)
-    serve-job-requires
-    (λ c. let s : tie.After-serve-job Inv-loop μ-loop = search in omega (arith, s .serve-job .ensures .0, at-below (search)))
+    write-job-line-requires
+    (λ c. let w : tie.After-write-job-line Inv-loop μ-loop = search in omega (arith, w .write-job-line .ensures .0, at-below (inside w)))
     (λ c. let i : Inside = search in omega (arith, below i, few (begun i)))
     (λ c. let i : Inside = search in omega (arith, below i))
     loop-again
-    (λ c. let h : Head = search in h .loop .inv .writing .same)
+    (λ c. let t : Head = search in t .loop .inv .writing .same)
     returns)

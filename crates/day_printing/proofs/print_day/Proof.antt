@@ -17,6 +17,9 @@ use Rattle.day_printing.proofs.print_day.Tie as tie
 long : 325776 ≡ length {A = ℕ} (replicate 325776 0)
 long = sym (length-replicate {A = ℕ} 325776 0)
 
+stores-long : 24576 ≡ length {A = ℕ} (replicate 24576 0)
+stores-long = sym (length-replicate {A = ℕ} 24576 0)
+
 module _ (l : tie.After-load-day) where
   abbrev begun : tie.Start
   begun = search
@@ -34,8 +37,17 @@ module _ (f : tie.After-loaded2) where
   loads : DayLoads (begun load .args .file .now) (f .loaded2 .given .0 .0) (load .load-day .last .1 .0)
   loads = day-loads _ _ _ _ (sym (f .loaded2 .given .1) ∙ load .load-day .ensures .0) (load .load-day .ensures .1)
 
+-- the day is run
+stores-kept : (r : tie.After-run-day) → length (r .run-day .last .1 .1 .1 .0) ≡ 24576
+stores-kept r = r .run-day .kept .1 .1 .1 .0 ∙ sym stores-long
+
+run-day-requires : tie.Need-run-day-requires
+run-day-requires c κs = (loads (search), as-many (search), sym stores-long)
+
 print-labels-requires : tie.Need-print-labels-requires
-print-labels-requires c κs = (loads (search), as-many (search), le-of-eq long)
+print-labels-requires c κs =
+    let r : tie.After-run-day = search in
+    (loads (search), as-many (search), r .run-day .ensures, stores-kept r, le-of-eq long)
 
 pub print-day-spec : {M : Type 1} → statement M
 print-day-spec =
@@ -47,6 +59,10 @@ print-day-spec =
     (λ c κs. omega (arith, small (search)))
     (search needs)
     (λ c. sym (as-many (search)))
+    (λ c. stores-long)
+    run-day-requires
+    (λ c. sym (as-many (search)))
+    (λ c. sym (stores-kept (search)))
     (λ c. long)
     print-labels-requires
     (search needs)

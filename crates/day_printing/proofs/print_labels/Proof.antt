@@ -5,16 +5,16 @@ use native.Mathlib.Omega.{arith}
 use lib.ListN.{length}
 use lib.Seq.{length-take-le}
 use Rattle.day_file.proofs.Answers.{within-limits}
-use Rattle.file_lines.proofs.Lengths.{written-within}
+use Rattle.view_fields.proofs.Buffers.{written-within}
 use borrow.Author.Needs.{needs}
 use Rattle.day_printing.proofs.print_labels.Statement.{statement}
 use Rattle.day_printing.proofs.print_labels.Tie as tie
 
 abbrev Inv-loop : tie.InvT-loop
-Inv-loop file h labels out₀ count i₀ out i = length out ≡ length out₀
+Inv-loop file h labels ends stores out₀ count i₀ out i = length out ≡ length out₀
 
 abbrev μ-loop : tie.MeasureT-loop
-μ-loop file h labels out₀ count i₀ out i = count - i
+μ-loop file h labels ends stores out₀ count i₀ out i = count - i
 
 abbrev Begun : Type 0
 Begun = tie.Start Inv-loop μ-loop
@@ -33,11 +33,11 @@ module _ (w : tie.After-write-day-lines Inv-loop μ-loop) where
   abbrev begun : Begun
   begun = search
 
-  as-long : length (w .write-day-lines .last .1 .1 .1 .1 .0) ≡ length (begun .args .out .now)
-  as-long = w .write-day-lines .kept .1 .1 .1 .1 .0 ∙ head .loop .inv
+  as-long : length (w .write-day-lines .last .1 .1 .1 .1 .1 .1 .0) ≡ length (begun .args .out .now)
+  as-long = w .write-day-lines .kept .1 .1 .1 .1 .1 .1 .0 ∙ head .loop .inv
 
-  within : w .write-day-lines .result ≤ length (w .write-day-lines .last .1 .1 .1 .1 .0)
-  within = omega (arith, w .write-day-lines .ensures .0, written-within _ _ _ (w .write-day-lines .ensures .1))
+  within : w .write-day-lines .result ≤ length (w .write-day-lines .last .1 .1 .1 .1 .1 .1 .0)
+  within = written-within _ _ (w .write-day-lines .ensures .0) (w .write-day-lines .ensures .1)
 
 few : (b : Begun) → b .args .h .labels .count ≤ 32
 few b = rw (b .pre .0 .numbers) (within-limits (b .args .file .now) (b .pre .0 .none) .labels)
@@ -46,7 +46,7 @@ write-day-lines-requires : tie.Need-write-day-lines-requires Inv-loop μ-loop
 write-day-lines-requires c κs =
     let h : Head = search in
     let b : Begun = search in
-    (b .pre .0, b .pre .1, omega (arith, b .pre .2, h .loop .inv))
+    (b .pre .0, b .pre .1, b .pre .2, b .pre .3, omega (arith, b .pre .4, h .loop .inv))
 
 pub print-labels-spec : {M : Type 1} → statement M
 print-labels-spec =

@@ -1,12 +1,9 @@
 -- `lines::write_bytes` meets its contract. Assumes nothing.
-use mathlib.Core.Path.{_≡_, refl, sym, ap, _∙_}
-use mathlib.Core.List.{List, _∷_}
+use mathlib.Core.Path.{refl}
 use native.Mathlib.Omega.{arith}
-use Prim.Native.Nat.{ℕ, _+_, _-_, _≤_, _<_}
-use native.Mathlib.Numerals.{add-one}
-use lib.ListN.{length, getD, drop, drop-of-length-le}
-use lib.Seq.{drop-cons}
-use Rattle.view_fields.proofs.Buffers.{Writing, start, byte, ends}
+use Prim.Native.Nat.{_-_, _≤_}
+use lib.ListN.{length, drop, drop-of-length-le}
+use Rattle.view_fields.proofs.Buffers.{Writing, start, byte, ends, from-here}
 use borrow.Author.Needs.{needs}
 use Rattle.lines.proofs.write_bytes.Statement.{statement}
 use Rattle.lines.proofs.write_bytes.Tie as tie
@@ -24,9 +21,6 @@ Start = tie.Start Inv-loop μ-loop
 abbrev Head : Type 0
 Head = tie.At-loop Inv-loop μ-loop
 
-byte-here : (bs : List ℕ) (i : ℕ) → i < length bs → drop i bs ≡ getD bs i 0 ∷ drop (i + 1) bs
-byte-here bs i h = drop-cons bs i 0 h ∙ ap (λ (k : ℕ). getD bs i 0 ∷ drop k bs) (sym (add-one i))
-
 slice-write-out : tie.Need-slice-write-out Inv-loop μ-loop
 slice-write-out c = let l : Head = search in omega (arith, l .loop .inv .1 .same)
 
@@ -34,7 +28,7 @@ loop-again : tie.Need-loop-again Inv-loop μ-loop
 loop-again c =
     let l : Head = search in
     let b : Start = search in
-    (omega arith, byte (l .loop .inv .1) (byte-here (b .args .bytes .now) (l .loop .i) (omega arith)) (omega (arith, l .loop .inv .1 .same)))
+    (omega arith, byte (l .loop .inv .1) (from-here (b .args .bytes .now) (l .loop .i) (omega arith)) (omega (arith, l .loop .inv .1 .same)))
 
 returns : tie.Need-returns Inv-loop μ-loop
 returns c =

@@ -2,10 +2,12 @@
 use mathlib.Core.Path.{_≡_, refl, sym, ap, ap₂, _∙_}
 use mathlib.Core.List.{List, [], _∷_, _++_}
 use native.Mathlib.Omega.{arith}
-use Prim.Native.Nat.{ℕ, _+_, _-_, _*_, _≤_, _<_}
+use Prim.Native.Nat.{ℕ, _+_, _-_, _*_, _%_, _≤_, _<_}
+use lib.Bits.{bitAnd}
 use lib.ListN.{length, getD, drop, drop-of-length-le}
-use Rattle.lines.specs.Lines.{hex}
+use Rattle.lines.specs.Lines.{hexDigit, hex}
 use Rattle.view_fields.proofs.Buffers.{Writing, start, piece, ends, room-for}
+use Rattle.view_fields.proofs.Digits.{masked, masked-hex}
 use Rattle.lines.proofs.Printing.{hex-here}
 use borrow.Author.Needs.{needs}
 use Rattle.lines.proofs.write_hex.Statement.{statement}
@@ -41,6 +43,10 @@ module _ (c : Read) where
   small : getD bytes (head .loop .i) 0 < 256
   small = omega (arith, c .shared-slice-known2 .given (head .loop .i))
 
+  low : bitAnd (getD bytes (head .loop .i) 0) 15 ≡ getD bytes (head .loop .i) 0 % 16
+  unfolding masked
+  low = ap (λ (ds : List ℕ). getD ds 0 0) (masked-hex (getD bytes (head .loop .i) 0) small)
+
 module _ (c : Digits) where
   abbrev high : tie.After-hex-digit Inv-loop μ-loop
   high = search
@@ -51,6 +57,9 @@ module _ (c : Digits) where
   abbrev begun : Start
   begun = search
 
+  abbrev read : Read
+  read = search
+
   abbrev digits : List ℕ
   digits = high .hex-digit .result ∷ c .hex-digit2 .result ∷ []
 
@@ -58,7 +67,7 @@ module _ (c : Digits) where
   others = hex (drop (top .loop .i + 1) (begun .args .bytes .now))
 
   here : hex (drop (top .loop .i) (begun .args .bytes .now)) ≡ digits ++ others
-  here = hex-here (begun .args .bytes .now) (top .loop .i) (omega arith) ∙ ap₂ (λ (u v : ℕ). u ∷ v ∷ others) (sym (high .hex-digit .ensures)) (sym (c .hex-digit2 .ensures))
+  here = hex-here (begun .args .bytes .now) (top .loop .i) (omega arith) ∙ ap₂ (λ (u v : ℕ). u ∷ v ∷ others) (sym (high .hex-digit .ensures)) (sym (c .hex-digit2 .ensures ∙ ap hexDigit (low read)))
 
   room : top .loop .at + 2 ≤ length (begun .args .out .now)
   room = omega (arith, top .loop .inv .1, begun .pre)
@@ -87,8 +96,8 @@ write-hex-spec =
     μ-loop
     (λ c. (omega arith, omega arith, start refl))
     (search needs)
-    (λ c κs. omega (arith, small (search)))
-    (λ c κs. omega (arith, small (search)))
+    (λ c κs. let r : Read = search in omega (arith, small r, low r))
+    (λ c κs. let r : Read = search in omega (arith, small r, low r))
     (λ c. let l : Head = search in omega (arith, l .loop .inv .2 .same))
     (λ c. let l : Head = search in omega (arith, l .loop .inv .2 .same))
     (search needs)

@@ -2,10 +2,9 @@
 use mathlib.Core.Path.{_≡_, sym}
 use Prim.Native.Nat.{ℕ, _≤_}
 use native.Mathlib.Nat.{le-of-eq}
-use native.Mathlib.Omega.{arith}
 use lib.ListN.{length, replicate, length-replicate}
 use lib.Seq.{length-take-le}
-use Rattle.file_lines.proofs.Lengths.{written-within}
+use Rattle.view_fields.proofs.Buffers.{written-within}
 use borrow.Author.Needs.{needs}
 use Rattle.printing.proofs.print_file.Statement.{statement}
 use Rattle.printing.proofs.print_file.Tie as tie
@@ -16,7 +15,7 @@ long = sym (length-replicate {A = ℕ} 651552 0)
 
 -- what was written lies within the buffer
 within : (w : tie.After-write-printed) → w .write-printed .result ≤ length (w .write-printed .last .1 .0)
-within w = omega (arith, w .write-printed .ensures .0, written-within _ _ _ (w .write-printed .ensures .1))
+within w = written-within _ _ (w .write-printed .ensures .0) (w .write-printed .ensures .1)
 
 pub print-file-spec : {M : Type 1} → statement M
 print-file-spec =

@@ -3,24 +3,24 @@ use mathlib.Core.Path.{_≡_, sym, ap, subst₂, _∙_}
 use mathlib.Core.List.{List}
 use mathlib.Core.Logic.{⊎-elim}
 use native.Mathlib.Omega.{arith}
-use Prim.Native.Nat.{ℕ, _+_, _-_, _≤_, _<_}
+use Prim.Native.Nat.{ℕ, _+_, _-_, _*_, _≤_, _<_}
 use lib.ListN.{length}
 use Rattle.model.specs.State.{at as slotAt}
 use Rattle.store.specs.Slots.{slots}
 use Rattle.model.specs.State.{shown}
 use Rattle.view.specs.Writing.{observes as reading}
 use Rattle.view_fields.proofs.Buffers.{room-for}
-use Rattle.view.proofs.Places.{Written, none-yet, all-written, room-here, written-here, hidden-here}
+use Rattle.view.proofs.Places.{Written, none-yet, all-counted, all-written, room-here, written-here, hidden-here}
 use borrow.Author.Needs.{needs}
 use Rattle.view.proofs.write_records.Statement.{statement}
 use Rattle.view.proofs.write_records.Tie as tie
 
 -- the records shown before place p are written
 abbrev Inv-loop : tie.InvT-loop
-Inv-loop reader store out₀ at₀ p₀ out at p = Written (reading reader) store out₀ out at p
+Inv-loop reader store out₀ n₀ p₀ out n p = Written (reading reader) store out₀ out n p
 
 abbrev μ-loop : tie.MeasureT-loop
-μ-loop reader store out₀ at₀ p₀ out at p = 256 - p
+μ-loop reader store out₀ n₀ p₀ out n p = 256 - p
 
 abbrev Start : Type 0
 Start = tie.Start Inv-loop μ-loop
@@ -61,8 +61,12 @@ module _ (c : Record) where
   abbrev s : Seen
   s = search
 
-  room : top s .loop .at + 36 ≤ length (begun s .args .out .now)
-  room = omega (arith, room-here _ _ (top s .loop .inv) (below s) _ (seen s ∙ c .r .given .1))
+  room : 36 * top s .loop .n + 36 ≤ length (begun s .args .out .now)
+  room = room-here _ _ (top s .loop .inv) (below s) _ (seen s ∙ c .r .given .1)
+
+-- the next record starts within the buffer
+started : (l : Head) → 36 * l .loop .n ≤ length (l .loop .out)
+started l = l .loop .inv .writing .room
 
 loop-holds : tie.Need-loop-holds Inv-loop μ-loop
 loop-holds c = let b : Start = search in none-yet (reading (b .args .reader)) (b .args .store .now) (b .args .out .now) (b .pre .1)
@@ -83,7 +87,9 @@ loop-again c =
     (c .match .came)
 
 returns : tie.Need-returns Inv-loop μ-loop
-returns c = let l : Head = search in all-written _ _ (l .loop .inv) (omega arith)
+returns c =
+    let l : Head = search in
+    (omega (arith, l .loop .inv .few, l .loop .inv .place), all-counted _ _ (l .loop .inv) (omega arith), all-written _ _ (l .loop .inv) (omega arith))
 
 pub write-records-spec : {M : Type 1} → statement M
 write-records-spec =
@@ -96,11 +102,12 @@ write-records-spec =
     (search needs)
     (search needs)
     (λ c. omega arith)
-    (λ c. omega arith)
-    (λ c. omega arith)
+    (λ c. let l : Head = search in omega (arith, l .loop .inv .few, l .loop .inv .place))
+    (λ c. omega (arith, started (search)))
+    (λ c. omega (arith, started (search)))
     (λ c. omega arith)
     write-record-requires
-    (λ c. omega (arith, room (search)))
+    (λ c. let l : Head = search in omega (arith, l .loop .inv .few, l .loop .inv .place))
     (search needs)
     (λ c. omega arith)
     (λ c. omega arith)
