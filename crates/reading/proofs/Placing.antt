@@ -5,10 +5,11 @@ use Prim.Native.Nat.{ℕ, zero, suc, _+_, _-_, _*_, _≤_, _<_}
 use native.Mathlib.Nat.{zero-add}
 use native.Mathlib.Numerals.{add-one}
 use native.Mathlib.Omega.{arith}
-use lib.ListN.{length, set, replicate}
-use lib.Seq.{append-snoc, set-append-seam}
+use lib.ListN.{length, take, drop, set, replicate}
+use lib.Seq.{append-snoc, set-append-seam, getD-take, getD-drop}
 use Rattle.labels.specs.declared.Label.{Label}
 use Rattle.model.specs.State.{Store}
+use Rattle.model.specs.Decoding.{byte, u16, u32}
 use Rattle.model.specs.Inputs.{inputs, inputSlots}
 use Rattle.model.specs.Running.{startStore}
 use Rattle.model.proofs.Start.{length-inputs, length-slots}
@@ -52,6 +53,26 @@ placed-more ls bs n h =
 placed-all : (ls : ℕ → Label) (bs : List ℕ) (n : ℕ) → placed ls bs n ≡ startStore (inputSlots (inputs ls bs n 0))
 unfolding placed startStore
 placed-all ls bs n = ap (λ (k : ℕ). inputSlots (inputs ls bs n 0) ++ replicate (256 - k) Empty) (sym (length-placed ls bs n 0))
+
+-- the six bytes at a, taken by themselves, are the record there
+module _ (ls : ℕ → Label) (bs : List ℕ) (a : ℕ) where
+  abbrev six : List ℕ
+  six = take (a + 6 - a) (drop a bs)
+
+  byte-in : (k i : ℕ) → k < 6 → a + k ≡ i → byte six k ≡ byte bs i
+  byte-in k i h e = getD-take (a + 6 - a) (drop a bs) k 0 (omega arith) ∙ getD-drop a bs k 0 ∙ ap (byte bs) e
+
+  pub record-in : inputRecord ls six 0 ≡ inputRecord ls bs a
+  unfolding u16 u32
+  record-in =
+      rw (
+        byte-in 0 a (omega arith) (omega arith),
+        byte-in 1 (a + 1) (omega arith) (omega arith),
+        byte-in 2 (a + 2) (omega arith) (omega arith),
+        byte-in 3 (a + 2 + 1) (omega arith) (omega arith),
+        byte-in 4 (a + 2 + 2) (omega arith) (omega arith),
+        byte-in 5 (a + 2 + 2 + 1) (omega arith) (omega arith),
+      )
 
 -- the first i of n records are placed
 pub record Placing (ls : ℕ → Label) (bs store : List ℕ) (n i : ℕ) : Type 0 where
