@@ -124,7 +124,7 @@ loop-again c =
     let ys = w .4 .last .1 .1 .1 .1 .1 .0 in
     let size : length ys ≡ words = w .4 .kept .1 .1 .1 .1 .1 .0 ∙ length-part (head i .loop .stores) (k i) (room i) in
     rw (w .8, w .9, w .10, w .11)
-    (one-ran (bs (begun i)) v (below-all i) (is-job a) (w .0 .taken) (small i) ys _ size (w .4 .ensures .0) _ (w .4 .ensures .1) (w .4 .kept .1 .1 .1 .1 .0 ∙ v .size) (length-put (head i .loop .stores) (k i) (room i) ys size ∙ v .room)))
+    (one-ran (bs (begun i)) v (below-all i) (is-job a) (omega (arith, w .0 .taken)) (small i) ys _ size (w .4 .ensures .0) _ (w .4 .ensures .1) (w .4 .kept .1 .1 .1 .1 .0 ∙ v .size) (length-put (head i .loop .stores) (k i) (room i) ys size ∙ v .room)))
     (λ w. rw (w .1, w .2, w .3, w .4) (one-skipped (bs (begun i)) v (below-all i) (is-job a) (omega (arith, w .0 .left)) (small i)))
     (c .if1 .came)
 
