@@ -22,7 +22,7 @@ pub struct JobEnd {
     pub finish: Finished,
 }
 
-// Those of a day's jobs, of which there are at most 16. A skipped job's is NONE.
+// Those of a day's jobs, of which there are at most 16. Of a skipped job nothing but `ran` is looked at.
 pub struct Ends {
     pub jobs: [JobEnd; 16],
 }
