@@ -1,13 +1,11 @@
 -- The loop over the jobs of a day: what is left of their lines.
 use mathlib.Core.Bool.{Bool}
-use mathlib.Core.List.{List, _∷_, _++_}
+use mathlib.Core.List.{List, _++_}
 use mathlib.Core.Path.{_≡_, refl, sym, ap, _∙_}
 use Prim.Native.Nat.{ℕ, _+_, _*_, _≤_, _<_}
 use native.Mathlib.Nat.{le-of-eq}
 use native.Mathlib.Omega.{arith}
-use native.Mathlib.Numerals.{add-one}
 use lib.ListN.{length, getD, drop, replicate, drop-of-length-le}
-use lib.Seq.{drop-cons}
 use Rattle.labels.specs.declared.Label.{Label}
 use Rattle.model.specs.Decoding.{u16}
 use Rattle.model.specs.declared.Finished.{Finished}
@@ -15,7 +13,7 @@ use Rattle.store.specs.Slots.{slots}
 use Rattle.store.proofs.Places.{length-slots}
 use Rattle.view_fields.specs.Fields.{littleEndian}
 use Rattle.view_fields.specs.Writing.{over}
-use Rattle.view_fields.proofs.Buffers.{Writing, start, piece, ends as all-of, ends-at, part, back, room-for}
+use Rattle.view_fields.proofs.Buffers.{Writing, from-here, start, piece, ends as all-of, ends-at, part, back, room-for}
 use Rattle.view.specs.Layout.{view}
 use Rattle.view.specs.Writing.{observes, finished}
 use Rattle.lines.specs.Lines.{hex, frontFields, widths, spaced, line}
@@ -77,7 +75,7 @@ module _ (Reads : Label → Bool) (bs : List ℕ) where
       line-here : eachTurn lineOf (drop k (dayTurns bs)) ≡ lineOf turn ++ eachTurn lineOf (drop (k + 1) (dayTurns bs))
       unfolding eachTurn
       line-here =
-          ap (eachTurn lineOf) (drop-cons (dayTurns bs) k skipped (omega (arith, kept .count)) ∙ ap (λ (i : ℕ). getD (dayTurns bs) k skipped ∷ drop i (dayTurns bs)) (sym (add-one k)))
+          ap (eachTurn lineOf) (from-here (dayTurns bs) skipped k (omega (arith, kept .count)))
           ∙ ap (λ (v : List ℕ). line v ++ eachTurn lineOf (drop (k + 1) (dayTurns bs))) (sym (kept .each k h Reads))
 
       pub one-more : {m : ℕ} → m ≤ longestLine → m ≡ length (lineOf turn) → {ys : List ℕ} → ys ≡ over (lineOf turn) (part at b)

@@ -2,16 +2,15 @@
 use mathlib.Core.Path.{_≡_, refl, sym, ap, ap₂, _∙_}
 use mathlib.Core.List.{List, [], _∷_, _++_, append-assoc}
 use Prim.Native.Nat.{ℕ, zero, suc, _+_, _-_, _*_, _≤_, _<_, _/_, _%_}
-use native.Mathlib.Numerals.{add-one}
 use native.Mathlib.Omega.{arith}
 use borrow.Author.Tests.{lt-ltb, le-ltb}
 use lib.ListN.{length, getD, take, drop, length-append, length-drop}
-use lib.Seq.{drop-cons, drop-drop, take-add, length-take-le}
+use lib.Seq.{drop-drop, take-add, length-take-le}
 use Rattle.model.specs.Decoding.{u16}
 use Rattle.lines.specs.Lines.{hexDigit, hex, frontFields, recordFieldWidths, widths, spaced, line, digits, decimal, refusedLine}
 use Rattle.view_fields.specs.Writing.{over}
 use Rattle.lines.specs.Cutting.{Cut}
-use Rattle.view_fields.proofs.Buffers.{Writing, first, part, part-drop}
+use Rattle.view_fields.proofs.Buffers.{Writing, from-here, first, part, part-drop}
 
 -- ── digits ──
 
@@ -23,7 +22,7 @@ length-hex (b ∷ bs) = let e = length-hex bs in omega arith
 pub hex-here : (bs : List ℕ) (i : ℕ) → i < length bs
     → hex (drop i bs) ≡ hexDigit (getD bs i 0 / 16) ∷ hexDigit (getD bs i 0 % 16) ∷ hex (drop (i + 1) bs)
 unfolding hex
-hex-here bs i h = ap hex (drop-cons bs i 0 h ∙ ap (λ (k : ℕ). getD bs i 0 ∷ drop k bs) (sym (add-one i)))
+hex-here bs i h = ap hex (from-here bs 0 i h)
 
 -- ── fields ──
 
@@ -68,7 +67,7 @@ pub spaced-here : (ws rest : List ℕ) (j n : ℕ) → j < length ws → Cut (ge
     → spaced (drop j ws) rest ≡ (0x20 ∷ hex (take n rest)) ++ spaced (drop (j + 1) ws) (part n rest)
 unfolding spaced
 spaced-here ws rest j n h k =
-    ap (λ (v : List ℕ). spaced v rest) (drop-cons ws j 0 h ∙ ap (λ (i : ℕ). getD ws j 0 ∷ drop i ws) (sym (add-one j)))
+    ap (λ (v : List ℕ). spaced v rest) (from-here ws 0 j h)
     ∙ ap₂ (λ (u v : List ℕ). (0x20 ∷ hex u) ++ spaced (drop (j + 1) ws) v) (sym (k .taken)) (sym (part-drop n rest ∙ k .dropped))
 
 pub length-field : (w : ℕ) (rest : List ℕ) (n : ℕ) → Cut w rest n → length (0x20 ∷ hex (take n rest)) ≡ 1 + 2 * n

@@ -6,7 +6,6 @@ use Prim.Native.Nat.{ℕ, _+_, _*_, _≤_, _<_}
 use native.Mathlib.Numerals.{add-one}
 use native.Mathlib.Omega.{arith}
 use lib.ListN.{length, drop, drop-of-length-le}
-use lib.Seq.{drop-cons}
 use Rattle.labels.specs.declared.Label.{Label}
 use Rattle.model.specs.State.{at, shown}
 use Rattle.model.specs.declared.Record.{Record}
@@ -17,14 +16,12 @@ use Rattle.store.proofs.Places.{length-slots}
 use Rattle.view_fields.specs.Fields.{recordWidth, recordField}
 use Rattle.view.specs.Layout.{slotField, recordFields, one, recordsShown}
 use Rattle.view_fields.specs.Writing.{over}
-use Rattle.view_fields.proofs.Buffers.{Writing, start, piece, ends, part, back}
+use Rattle.view_fields.proofs.Buffers.{Writing, from-here, start, piece, ends, part, back}
 use Rattle.view_fields.proofs.Widths.{length-record}
 
 module _ (Reads : Label → Bool) (l : List ℕ) where
   here : (p : ℕ) → p < places → drop p (slots l) ≡ at (slots l) p ∷ drop (p + 1) (slots l)
-  here p h =
-      drop-cons (slots l) p Empty (let e = length-slots l in omega arith)
-      ∙ ap (λ (k : ℕ). at (slots l) p ∷ drop k (slots l)) (sym (add-one p))
+  here p h = from-here (slots l) Empty p (let e = length-slots l in omega arith)
 
   nothing : (p : ℕ) → places ≤ p → drop p (slots l) ≡ []
   nothing p h = drop-of-length-le (slots l) {i = p} (let e = length-slots l in omega arith)

@@ -15,8 +15,8 @@ unfolding over
 over-all v b h = ap (λ (z : List ℕ). v ++ z) (drop-of-length-le b {i = length v} h) ∙ append-nil v
 
 -- the element at i, and those behind it
-pub from-here : (xs : List ℕ) (i : ℕ) → i < length xs → drop i xs ≡ getD xs i 0 ∷ drop (i + 1) xs
-from-here xs i h = drop-cons xs i 0 h ∙ ap (λ (k : ℕ). getD xs i 0 ∷ drop k xs) (sym (add-one i))
+pub from-here : {A : Type 0} (xs : List A) (d : A) (i : ℕ) → i < length xs → drop i xs ≡ getD xs i d ∷ drop (i + 1) xs
+from-here xs d i h = drop-cons xs i d h ∙ ap (λ (k : ℕ). getD xs i d ∷ drop k xs) (sym (add-one i))
 
 -- n bytes that were written over the start of a buffer lie within it, and are read back from there
 module _ (v b : List ℕ) {n : ℕ} (e : n ≡ length v) where

@@ -24,7 +24,7 @@ loop-again : tie.Need-loop-again Inv-loop μ-loop
 loop-again c =
     let l : Head = search in
     let b : Start = search in
-    (omega arith, byte (l .loop .inv .1) (from-here (b .args .from .now) (l .loop .i) (omega (arith, b .pre .0))) (omega (arith, b .pre .1)))
+    (omega arith, byte (l .loop .inv .1) (from-here (b .args .from .now) 0 (l .loop .i) (omega (arith, b .pre .0))) (omega (arith, b .pre .1)))
 
 returns : tie.Need-returns Inv-loop μ-loop
 returns c =

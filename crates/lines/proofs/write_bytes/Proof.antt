@@ -28,7 +28,7 @@ loop-again : tie.Need-loop-again Inv-loop μ-loop
 loop-again c =
     let l : Head = search in
     let b : Start = search in
-    (omega arith, byte (l .loop .inv .1) (from-here (b .args .bytes .now) (l .loop .i) (omega arith)) (omega (arith, l .loop .inv .1 .same)))
+    (omega arith, byte (l .loop .inv .1) (from-here (b .args .bytes .now) 0 (l .loop .i) (omega arith)) (omega (arith, l .loop .inv .1 .same)))
 
 returns : tie.Need-returns Inv-loop μ-loop
 returns c =
