@@ -1,6 +1,7 @@
 //! Hand-worked days, each with the refusal or the endings that the papers demand.
 
 pub mod admission;
+pub mod callers;
 pub mod clearances;
 pub mod code;
 pub mod halves;
@@ -44,6 +45,7 @@ pub fn all() -> Vec<DayCase> {
         code::cases(),
         several::cases(),
         admission::cases(),
+        callers::cases(),
         store::cases(),
         handles::cases(),
         halves::cases(),
@@ -70,7 +72,19 @@ pub fn of(jobs: &[fn(&mut Code)]) -> DayScript {
     day
 }
 
-/// Adds a job that starts public, with as much as plain cases are given.
+/// The caller of [`one_caller`].
+pub const CALLER: u8 = 3;
+
+/// Makes the jobs one caller's, which declare so many steps of this limit.
+pub fn one_caller(day: &mut DayScript, limit: u32, declared: &[u16]) {
+    day.steps = limit;
+    for (job, &steps) in day.jobs.iter_mut().zip(declared) {
+        (job.caller, job.steps) = (CALLER, steps);
+    }
+}
+
+/// Adds a job that starts public, with as much as plain cases are given. Each of 16 jobs
+/// has a caller of its own.
 pub fn add(day: &mut DayScript, write: impl FnOnce(&mut Code)) {
     let mut code = Code::new();
     write(&mut code);

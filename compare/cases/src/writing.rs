@@ -73,7 +73,7 @@ fn six_records() -> Case {
     case("bytes of a length", ending, script(vec![RECORD; 6], |code| _ = code.end()))
 }
 
-/// The file that is spent, as a job, and once more, for which the day has a step too few.
+/// The file that is spent, as a job, and once more, for which its caller has a step too few.
 pub fn day() -> DayCase {
     let Script { labels, records, code, steps, places } = script(vec![RECORD], spin);
     let mut day = DayScript { labels, records, steps: 2 * u32::from(steps) - 1, ..DayScript::default() };

@@ -1,6 +1,7 @@
 //! The corpus of days is large enough, small enough, and sees everything.
 
 use corpus::days;
+use generator::admission::{admitted, Declared};
 use generator::day_coverage::DayCoverage;
 use mutants::day_list::{DayMutant, DAY_MUTANTS};
 use mutants::day_search::views;
@@ -8,6 +9,7 @@ use mutants::day_wrong::WrongDay;
 use mutants::writer_search::differs_on_day;
 use mutants::wrong_writers::{self, WrongWriter};
 use reference::day::Day;
+use reference::jobs::{self, Outcome};
 use reference::rules::Paper;
 use std::collections::HashSet;
 
@@ -48,6 +50,18 @@ fn every_point_is_reached() {
     let coverage = DayCoverage::default();
     days::entries().iter().for_each(|entry| coverage.add(&entry.file));
     assert_eq!(coverage.missing(), []);
+}
+
+/// In hand-worked days too.
+#[test]
+fn jobs_are_skipped_by_the_papers_sentence() {
+    for entry in days::entries() {
+        let Ok(day) = Day::parse(&entry.file) else { continue };
+        let declared = day.jobs(&Paper).map(|job| Declared { caller: job.caller, steps: job.steps });
+        let expected = admitted(day.steps, &declared.collect::<Vec<_>>());
+        let found = jobs::run(&day, &Paper).into_iter().map(|outcome| matches!(outcome, Outcome::Ran(_)));
+        assert_eq!(found.collect::<Vec<_>>(), expected, "{}", entry.name);
+    }
 }
 
 /// Mutants of check 9, which nothing that is printed hangs on.

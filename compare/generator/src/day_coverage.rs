@@ -1,10 +1,11 @@
-//! What a set of days reaches: refusals, skipped jobs, what becomes of handles
-//! whose records are gone, and what failed flow tests tell.
+//! What a set of days reaches: refusals, which jobs are admitted, what becomes of
+//! handles whose records are gone, and what failed flow tests tell.
 
+use crate::admission::{self, Admission, Declared};
 use crate::clearances::{self, Back, Watch};
 use crate::halves::{self, Half};
 use reference::day::Day;
-use reference::day_rules::DayRules;
+use reference::day_rules::{Allowances, DayRules};
 use reference::label::Label;
 use reference::limits::{day_header, job, MAX_DAY};
 use reference::machine::Finished;
@@ -26,10 +27,7 @@ pub enum Point {
     /// A job was skipped, or ended with this number in its view.
     Skipped,
     Ended(u8),
-    /// A job ran behind a skipped one.
-    RanLater,
-    /// A job took all that was left of the day's steps.
-    UsedUp,
+    Admission(Admission),
     /// Jobs whose spans share bytes, and jobs of two callers.
     Overlap,
     TwoCallers,
@@ -58,7 +56,8 @@ type Opcode = u8;
 /// Every point there is.
 pub fn all_points() -> Vec<Point> {
     use Point::*;
-    let mut points = vec![Skipped, RanLater, UsedUp, Overlap, TwoCallers];
+    let mut points = vec![Skipped, Overlap, TwoCallers];
+    points.extend(admission::all_points().map(Point::Admission));
     points.extend([TurnedSealed, TurnedReference, TurnedHidden, Kept]);
     points.extend([ThrownBy(OPEN), ThrownBy(READ), Sealed, Uncleared, PassedOver(WRITE), PassedOver(LABOF)]);
     points.extend([Read, ReadHandle]);
@@ -74,8 +73,6 @@ pub fn all_points() -> Vec<Point> {
 pub struct DayCoverage {
     counts: RefCell<BTreeMap<Point, u64>>,
     reader: Cell<Option<Label>>,
-    /// Whether a job of the day was skipped.
-    skipped: Cell<bool>,
     /// Whether a job of the day has ended.
     later: Cell<bool>,
     /// Set between the raise of an OPEN or READ and the fault that it found.
@@ -96,9 +93,16 @@ impl DayCoverage {
                 self.read(file, reader, &mut buffer[..length - 1]);
             }
         }
-        if Day::parse(file).is_ok() {
+        if let Ok(day) = Day::parse(file) {
             self.add_jobs(file);
+            self.add_admission(&day);
         }
+    }
+
+    fn add_admission(&self, day: &Day) {
+        let declared = day.jobs(&Paper).map(|job| Declared { caller: job.caller, steps: job.steps });
+        let reached = admission::reached(day.steps, &declared.collect::<Vec<_>>());
+        reached.into_iter().for_each(|point| self.reach(Point::Admission(point)));
     }
 
     /// What the jobs' entries alone tell.
@@ -122,7 +126,6 @@ impl DayCoverage {
     }
 
     fn read(&self, file: &[u8], reader: usize, buffer: &mut [u8]) -> Option<usize> {
-        self.skipped.set(false);
         self.later.set(false);
         let answer = read_day_by(self, file, reader, buffer);
         answer.inspect_err(|refusal| self.reach(Point::Refused(refusal.number()))).ok()
@@ -241,27 +244,14 @@ impl Rules for DayCoverage {
 }
 
 impl DayRules for DayCoverage {
-    fn charged(&self, job: &Job, ran: Option<&Finished>) -> u32 {
-        match ran.map(|finished| finished.ending) {
-            None => {
-                self.skipped.set(true);
-                self.reach(Point::Skipped);
-            }
-            Some(Ending::Result(_)) => self.reach(Point::Ended(1)),
-            Some(Ending::Fault(_)) => self.reach(Point::Ended(2)),
-            Some(Ending::Spent) => self.reach(Point::Ended(3)),
-        }
-        if ran.is_some() && self.skipped.get() {
-            self.reach(Point::RanLater);
-        }
-        Paper.charged(job, ran)
-    }
-
-    fn admits(&self, declared: u16, left: u32) -> bool {
-        if u32::from(declared) == left {
-            self.reach(Point::UsedUp);
-        }
-        Paper.admits(declared, left)
+    fn charge(&self, left: &mut Allowances, account: usize, job: &Job, ran: Option<&Finished>) {
+        self.reach(match ran.map(|finished| finished.ending) {
+            None => Point::Skipped,
+            Some(Ending::Result(_)) => Point::Ended(1),
+            Some(Ending::Fault(_)) => Point::Ended(2),
+            Some(Ending::Spent) => Point::Ended(3),
+        });
+        Paper.charge(left, account, job, ran);
     }
 
     fn handed_on(&self, before: Store, finished: &Finished, inputs: usize) -> Store {

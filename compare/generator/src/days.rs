@@ -1,11 +1,13 @@
-//! Days, each fixed by its seed: jobs that share records and, often, code.
+//! Days, each fixed by its seed: jobs of a few callers that share records and, often,
+//! code.
 
 use crate::day_statements::code;
 use crate::random::Random;
 use crate::{day_invalid, parts};
 use reference::day::Day;
 use reference::day_script::{DayScript, JobEntry};
-use reference::limits::{day_header, MAX_CODE};
+use reference::jobs::{self, Outcome};
+use reference::limits::{day_header, CALLERS, MAX_CODE};
 use reference::opcode::well_formed;
 use reference::rules::Paper;
 use reference::script::Clauses;
@@ -51,30 +53,43 @@ pub fn day(random: &mut Random) -> DayScript {
         1 => random.within(8, 16),
         _ => random.within(2, 5),
     };
+    let callers = callers(random);
     for _ in 0..count {
-        let job = job(random, &mut day);
+        let caller = random.pick(&callers);
+        let job = job(random, &mut day, caller);
         day.jobs.push(job);
     }
-    day.steps = steps(random, &day);
+    day.steps = limit(random, &day);
     day
 }
 
-fn job(random: &mut Random, day: &mut DayScript) -> JobEntry {
+/// Mostly a few callers, so that they have several jobs each. Often they are two that
+/// might be taken for one another.
+fn callers(random: &mut Random) -> Vec<u8> {
+    let any = |random: &mut Random| random.below(CALLERS) as u8;
+    let first = any(random);
+    let second = match random.below(8) {
+        0 => first ^ 8,
+        1 => first ^ 1,
+        2 => CALLERS as u8 - 1 - first,
+        _ => any(random),
+    };
+    match random.below(10) {
+        0 => vec![first],
+        1..=5 => vec![first, second],
+        6..=8 => vec![first, second, any(random)],
+        _ => (0..CALLERS as u8).collect(),
+    }
+}
+
+/// A job, to be put into `day`, where its code is already.
+pub fn job(random: &mut Random, day: &mut DayScript, caller: u8) -> JobEntry {
     let (steps, places) = parts::allotment(random, day.records.len());
     // A loop without end in each of 16 jobs would only take time.
     let steps = if steps == u16::MAX && day.jobs.len() > 1 { 300 } else { steps };
     let (label, clearance) = start(random, &day.labels);
     let (code_at, code_length) = span(random, day, steps);
-    JobEntry {
-        caller: random.below(16) as u8,
-        label,
-        clearance,
-        zero: 0,
-        steps,
-        places,
-        code_at,
-        code_length,
-    }
+    JobEntry { caller, label, clearance, zero: 0, steps, places, code_at, code_length }
 }
 
 /// A start and a clearance that it flows to: mostly those of a plain file.
@@ -123,20 +138,51 @@ fn old_span(random: &mut Random, day: &DayScript) -> Option<(u16, u16)> {
     Some((job.code_at, job.code_length))
 }
 
-/// Mostly enough steps for all jobs, often not quite.
-fn steps(random: &mut Random, day: &DayScript) -> u32 {
-    let declared: u32 = day.jobs.iter().map(|job| u32::from(job.steps)).sum();
+/// Mostly enough steps for every caller's jobs, often not quite; and where it is enough
+/// for each caller's, often not for all callers' together.
+fn limit(random: &mut Random, day: &DayScript) -> u32 {
+    let sums = sums(day.jobs.iter().map(|job| (job.caller, job.steps)));
+    let most = sums.iter().copied().max().unwrap_or(0);
+    let all: u32 = day.jobs.iter().map(|job| u32::from(job.steps)).sum();
     match random.below(20) {
         0 => 0,
         1 => random.word() as u32,
-        2..=4 => declared.saturating_sub(random.below(3) as u32),
-        5..=10 => random.below(declared as usize + 1) as u32,
-        _ => declared + random.below(200) as u32,
+        2..=4 => random.pick(&sums) + random.below(3) as u32 - 1,
+        5 => random.below(most as usize + 1) as u32,
+        6 | 7 => by_use(random, day) + random.below(3) as u32 - 1,
+        8..=11 => random.within(most as usize, all as usize) as u32,
+        _ => all + random.below(200) as u32,
     }
 }
 
-/// The valid day `file` with as many steps as its first so many jobs declare, and
-/// with one step fewer.
+/// As much as some job declares and the earlier ones of its caller use: where that is not
+/// enough, it would be if they were charged what they use.
+fn by_use(random: &mut Random, day: &DayScript) -> u32 {
+    let at = random.below(day.jobs.len());
+    let JobEntry { caller, steps, .. } = day.jobs[at];
+    let file = DayScript { steps: u32::MAX, ..day.clone() }.bytes();
+    let outcomes = jobs::run(&Day::parse(&file).expect("a valid day"), &Paper);
+    let earlier = day.jobs[..at].iter().zip(&outcomes).filter(|(job, _)| job.caller == caller);
+    let used = earlier.map(|(_, outcome)| match outcome {
+        Outcome::Ran(finished) => u32::from(finished.steps_used),
+        Outcome::Skipped(_) => 0,
+    });
+    u32::from(steps) + used.sum::<u32>()
+}
+
+/// For each job what it and the earlier ones of its caller declare together.
+fn sums(jobs: impl Iterator<Item = (u8, u16)>) -> Vec<u32> {
+    let mut declared = [0; CALLERS];
+    jobs.map(|(caller, steps)| {
+        let sum = &mut declared[usize::from(caller)];
+        *sum += u32::from(steps);
+        *sum
+    })
+    .collect()
+}
+
+/// The valid day `file` with as many steps as the first so many jobs of a caller
+/// declare, and with one step fewer.
 pub fn limits(file: &[u8]) -> Vec<Vec<u8>> {
     let Ok(day) = Day::parse(file) else { return Vec::new() };
     let with = |steps: u32| {
@@ -144,11 +190,6 @@ pub fn limits(file: &[u8]) -> Vec<Vec<u8>> {
         variant[day_header::STEPS..day_header::LENGTH].copy_from_slice(&steps.to_le_bytes());
         variant
     };
-    let mut declared = 0;
-    let mut variants = Vec::new();
-    for job in day.jobs(&Paper) {
-        declared += u32::from(job.steps);
-        variants.extend([with(declared - 1), with(declared)]);
-    }
-    variants
+    let sums = sums(day.jobs(&Paper).map(|job| (job.caller, job.steps)));
+    sums.into_iter().flat_map(|declared| [with(declared - 1), with(declared)]).collect()
 }

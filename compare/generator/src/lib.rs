@@ -5,6 +5,7 @@
 //! what can go wrong: opening hidden records inside blocks, branching on them,
 //! and then doing something that others might notice.
 
+pub mod admission;
 pub mod alike;
 pub mod cap;
 pub mod clearances;
@@ -21,6 +22,7 @@ pub mod halves;
 pub mod invalid;
 mod lowering;
 pub mod near_miss;
+pub mod others;
 pub mod parts;
 pub mod paths;
 mod probes;

@@ -3,11 +3,11 @@
 //! that reader.
 
 use crate::day_list::DayMutant;
-use cases::days::{add, day, five, of};
+use cases::days::{add, day, five, of, one_caller};
 use cases::label::{CLEARANCE, PLAYER, PUBLIC};
 use cases::record::*;
 use generator::alike::Pair;
-use reference::day_script::DayScript;
+use reference::day_script::{DayScript, JobEntry};
 use reference::opcode::*;
 use reference::script::Code;
 
@@ -56,14 +56,19 @@ fn by_admission() -> Vec<Told> {
         let again = code.here();
         code.jump(again);
     };
+    // The first job uses 5 or 21 of its 30 steps; its caller has 10 left.
+    let too_few = |day: &mut DayScript| one_caller(day, 40, &[30, 30]);
+    let enough = |day: &mut DayScript| one_caller(day, 2000, &[1000, 1000]);
     [
-        // The first job uses 5 or 21 of its 30 steps; 10 of the day's are left.
+        opening(&[UsedCharged], busy, five, too_few),
         opening(&[UsedCharged], busy, five, |day| {
-            day.steps = 40;
-            day.jobs[0].steps = 30;
-            day.jobs[1].steps = 30;
+            one_caller(day, 40, &[30, 30]);
+            day.jobs.insert(1, JobEntry { caller: 7, ..day.jobs[1] });
         }),
+        opening(&[FaultFree], throw, five, too_few),
+        opening(&[FaultEndsCaller, FaultEndsDay], throw, five, enough),
         opening(&[FaultEndsDay], throw, five, |_| ()),
+        opening(&[SpentEndsCaller, SpentEndsDay], spin, five, enough),
         opening(&[SpentEndsDay], spin, five, |_| ()),
     ]
     .concat()

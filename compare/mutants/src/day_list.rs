@@ -5,14 +5,39 @@ use crate::list::{mutants, Harm};
 mutants! {
     DayMutant DAY_MUTANTS;
 
-    // Admission.
+    // Admission: whose allowance.
+    OneForAll Wrong "all callers have one allowance",
+    LimitsPooled Wrong "all callers have one allowance, as many limits as there are callers in the day",
+    LimitDivided Wrong "the limit is divided by the callers in the day",
+    Sixteenths Wrong "each caller has a sixteenth of the limit",
+    ByIndex Wrong "each job has an allowance of its own, by its index",
+    EightApart Wrong "callers eight apart have one allowance",
+    FirstAndLast Wrong "callers 0 and 15 have one allowance",
+    Neighbours Wrong "callers 2n and 2n + 1 have one allowance",
+    NextCharged Wrong "a job is charged to the next caller",
+    Borrowed Wrong "what a caller lacks is charged to the next one",
+    Refilled Wrong "behind another caller's job a caller has the whole limit again",
+
+    // Admission: what is taken down, and when a job is skipped.
     UsedCharged Leak "a job is charged the steps that it used",
+    FaultFree Leak "a job that faults is charged nothing",
     SkippedCharged Wrong "a skipped job is charged",
+    SkippedWraps Wrong "a skipped job is charged, modulo 2^32",
+    TakenFirst Wrong "steps are taken down, modulo 2^32, and then compared with what is left",
+    Unchecked Wrong "steps are taken down, modulo 2^32, and every job runs",
     NothingCharged Wrong "no job is charged",
-    LastStepsKept Wrong "a job that declares all that is left is skipped",
-    SkipEndsDay Wrong "no job runs behind a skipped one",
-    FaultEndsDay Leak "no job runs behind one that faults",
-    SpentEndsDay Leak "no job runs behind one that is spent",
+    FirstCharged Wrong "of a caller's jobs only the first to run is charged",
+    LastCharged Wrong "of a caller's jobs only the last one that ran counts",
+    LastStepsKept Wrong "a job that declares all that its caller has left is skipped",
+    ShortLimit Wrong "the limit counts modulo 2^16",
+    SignedLeft Wrong "what is left is compared as a signed number",
+    AllOrNone Wrong "no job runs of a caller whose jobs declare more than the limit",
+    SkipEndsCaller Wrong "no job runs behind a skipped one of its caller",
+    SkipEndsDay Wrong "no job runs behind a skipped one of any caller",
+    FaultEndsCaller Leak "no job runs behind one of its caller that faults",
+    FaultEndsDay Leak "no job runs behind one of any caller that faults",
+    SpentEndsCaller Leak "no job runs behind one of its caller that is spent",
+    SpentEndsDay Leak "no job runs behind one of any caller that is spent",
 
     // The store between jobs.
     StoreFresh Wrong "every job finds the store as it was at first",
@@ -59,7 +84,7 @@ mutants! {
     SkipTellsSteps Wrong "a skipped job's steps used are those declared",
     SkipTellsPlace Wrong "a skipped job's next place is C",
     SkipCountsInputs Wrong "a skipped job's records shown are the inputs",
-    StepsOfDay Wrong "steps used are the day's less those left",
+    StepsOfCaller Wrong "steps used are the caller's allowance less the steps left",
 
     // Check 9.
     LastViewChecked Wrong "check 9 is on the last view alone",

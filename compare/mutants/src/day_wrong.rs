@@ -1,8 +1,9 @@
 //! The mutants of days as rules.
 
+use crate::day_admission;
 use crate::day_list::DayMutant;
 use crate::handlers::Notes;
-use reference::day_rules::DayRules;
+use reference::day_rules::{Allowances, DayRules};
 use reference::label::Label;
 use reference::limits::{view, LOCALS};
 use reference::machine::Finished;
@@ -21,6 +22,8 @@ pub struct WrongDay {
     locals: Cell<[Value; LOCALS]>,
     /// The clearance that the first job to run started with.
     first_clearance: Cell<Label>,
+    /// The day's limit, for mutants of admission.
+    limit: Cell<u32>,
     notes: Notes,
 }
 
@@ -30,6 +33,7 @@ impl WrongDay {
             mutant,
             locals: Cell::new([Value::ZERO; LOCALS]),
             first_clearance: Cell::new(Label::PUBLIC),
+            limit: Cell::new(0),
             notes: Notes::default(),
         }
     }
@@ -158,21 +162,21 @@ impl DayRules for WrongDay {
         }
     }
 
-    fn admits(&self, declared: u16, left: u32) -> bool {
-        Paper.admits(declared, left) && !(self.is(DayMutant::LastStepsKept) && u32::from(declared) == left)
+    fn allowances(&self, limit: u32, jobs: &[Job]) -> Allowances {
+        self.limit.set(limit);
+        day_admission::allowances(self.mutant, limit, jobs)
     }
 
-    fn charged(&self, job: &Job, ran: Option<&Finished>) -> u32 {
-        let ending = ran.map(|finished| finished.ending);
-        match (self.mutant, ending) {
-            (DayMutant::UsedCharged, _) => ran.map_or(0, |finished| finished.steps_used.into()),
-            (DayMutant::SkippedCharged, None) => job.steps.into(),
-            (DayMutant::NothingCharged, _) => 0,
-            (DayMutant::SkipEndsDay, None)
-            | (DayMutant::FaultEndsDay, Some(Ending::Fault(_)))
-            | (DayMutant::SpentEndsDay, Some(Ending::Spent)) => u32::MAX,
-            _ => Paper.charged(job, ran),
-        }
+    fn account(&self, job: &Job, index: usize) -> usize {
+        day_admission::account(self.mutant, job, index)
+    }
+
+    fn admits(&self, declared: u16, account: usize, left: &Allowances) -> bool {
+        day_admission::admits(self.mutant, declared, account, left)
+    }
+
+    fn charge(&self, left: &mut Allowances, account: usize, job: &Job, ran: Option<&Finished>) {
+        day_admission::charge(self.mutant, self.limit.get(), left, account, job, ran);
     }
 
     fn handed_on(&self, before: Store, finished: &Finished, inputs: usize) -> Store {
@@ -229,12 +233,12 @@ impl DayRules for WrongDay {
         }
     }
 
-    fn ended(&self, finished: &mut Finished, job: &Job, left: u32, inputs: usize) {
+    fn ended(&self, finished: &mut Finished, job: &Job, allowance: u32, inputs: usize) {
         match self.mutant {
             DayMutant::TurnedTooSoon => finished.store.replace_handles_from(inputs),
             DayMutant::EmptiedTooSoon => finished.store.empty_from(inputs),
-            DayMutant::StepsOfDay => {
-                finished.steps_used = (left - u32::from(job.steps - finished.steps_used)) as u16;
+            DayMutant::StepsOfCaller => {
+                finished.steps_used = (allowance - u32::from(job.steps - finished.steps_used)) as u16;
             }
             _ => (),
         }

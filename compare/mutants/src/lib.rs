@@ -5,6 +5,7 @@
 //! found out by generated files and by files worked by hand.
 
 pub mod by_hand;
+pub mod day_admission;
 pub mod day_by_hand;
 pub mod day_list;
 pub mod day_loader;

@@ -1,10 +1,13 @@
 //! Every mutant of days is found out, and the original is not.
 
 use cases::days;
+use generator::others::{admissions, changed};
+use generator::random::Random;
 use mutants::day_by_hand;
 use mutants::day_list::{DayMutant, DAY_MUTANTS};
 use mutants::day_loader::PAPER;
 use mutants::day_search::{differs, leaks, pairs_needed, read, tells, views};
+use mutants::day_wrong::WrongDay;
 use mutants::list::{Harm, Mutant, MUTANTS};
 use mutants::wrong::Wrong;
 use mutants::wrong_day_loaders;
@@ -75,6 +78,39 @@ fn pairs_by_hand_tell_their_mutants_and_clear_the_original() {
         for &mutant in *mutants {
             assert!(tells(mutant, pair), "pair {at} does not tell {mutant:?}");
         }
+    }
+}
+
+/// Mutants by which other callers' jobs have a part in a caller's admission.
+const MEDDLING: &[DayMutant] = &[
+    DayMutant::OneForAll,
+    DayMutant::LimitsPooled,
+    DayMutant::LimitDivided,
+    DayMutant::EightApart,
+    DayMutant::FirstAndLast,
+    DayMutant::Neighbours,
+    DayMutant::NextCharged,
+    DayMutant::Borrowed,
+    DayMutant::Refilled,
+    DayMutant::SkipEndsDay,
+    DayMutant::FaultEndsDay,
+    DayMutant::SpentEndsDay,
+];
+
+/// By the papers these days admit a caller's jobs alike, which the generator's tests
+/// look at; here that is seen to tell mutants.
+#[test]
+fn other_callers_jobs_tell_mutants_that_heed_them() {
+    let told = |mutant: DayMutant, seed: u64| {
+        let mut random = Random::new(seed);
+        let day = generator::days::day(&mut random);
+        let caller = day.jobs[random.below(day.jobs.len())].caller;
+        let [before, after] = [day.clone(), changed(&mut random, &day, caller)]
+            .map(|day| admissions(&WrongDay::new(mutant), &day, caller));
+        before != after
+    };
+    for &mutant in MEDDLING {
+        assert!((0..4_000).any(|seed| told(mutant, seed)), "{mutant:?} passes for the original");
     }
 }
 

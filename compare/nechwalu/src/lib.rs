@@ -105,8 +105,10 @@ pub fn read(file: &[u8], reader: usize, buffer: &mut [u8]) -> Result<usize, u8> 
 /// of the buffer is as before. Each view holds its own length in its bytes 10 and
 /// 11, so that the next one can be found. [`LONGEST_DAY`] bytes are always enough.
 ///
-/// A job that declares more steps than the day has left is skipped: its view is 62
-/// bytes, with ending 4 and the two length fields, and the rest is 0.
+/// Each caller's jobs that run may declare as many steps together as the header says,
+/// whatever other callers' jobs do. A job that declares more than its caller has left is
+/// skipped: its view is 62 bytes, with ending 4 and the two length fields, and the rest
+/// is 0.
 ///
 /// # Errors
 ///
@@ -127,14 +129,14 @@ pub fn read(file: &[u8], reader: usize, buffer: &mut [u8]) -> Result<usize, u8> 
 /// # Example
 ///
 /// ```
-/// // Two labels, no records, two jobs, 6 bytes of code; 10 steps for the day.
+/// // Two labels, no records, three jobs, 6 bytes of code; 10 steps for each caller.
 /// let mut file = Vec::new();
-/// for number in [2u16, 20, 0, 25, 2, 25, 6, 49, 10, 0] {
+/// for number in [2u16, 20, 0, 25, 3, 25, 6, 61, 10, 0] {
 ///     file.extend(number.to_le_bytes());
 /// }
 /// file.extend([0, 0]); // label 0: public
 /// file.extend([1, 0, 0]); // label 1: everything secret
-/// for caller in [0, 1] {
+/// for caller in [4, 4, 1] {
 ///     file.extend([caller, 0, 1, 0]); // starts public, with label 1 as clearance
 ///     for number in [6u16, 0, 0, 6] {
 ///         file.extend(number.to_le_bytes()); // 6 steps, no places, all of the code
@@ -144,10 +146,11 @@ pub fn read(file: &[u8], reader: usize, buffer: &mut [u8]) -> Result<usize, u8> 
 ///
 /// let mut buffer = vec![0; nechwalu::LONGEST_DAY];
 /// let length = nechwalu::read_day(&file, 0, &mut buffer).expect("a valid day");
-/// assert_eq!(length, 62 + 62);
-/// let (first, second) = buffer[..length].split_at(62);
-/// assert_eq!((first[0], first[14]), (1, 5)); // ended with a result, 5
-/// assert_eq!(second[0], 4); // skipped: 4 steps were left
+/// assert_eq!(length, 62 + 62 + 62);
+/// let views: Vec<&[u8]> = buffer[..length].chunks(62).collect();
+/// assert_eq!((views[0][0], views[0][14]), (1, 5)); // ended with a result, 5
+/// assert_eq!(views[1][0], 4); // skipped: caller 4 had 4 steps left
+/// assert_eq!((views[2][0], views[2][14]), (1, 5)); // caller 1 had all of its own
 /// ```
 pub fn read_day(file: &[u8], reader: usize, buffer: &mut [u8]) -> Result<usize, u8> {
     // SAFETY: as for `read`, of which this call has the form.

@@ -1,7 +1,7 @@
 //! The day: a file of up to 16 jobs on one set of records.
 
 use crate::day_rules::DayRules;
-use crate::limits::{day_header, job, HIGHEST_CALLER, JOBS, MAX_FILE};
+use crate::limits::{day_header, job, CALLERS, JOBS, MAX_FILE};
 use crate::opcode;
 use crate::parts::{places, short, steps_hold, Job, Parts, Refusal, Sections};
 use crate::rules::Paper;
@@ -10,6 +10,7 @@ use crate::rules::Paper;
 #[derive(Clone, Debug)]
 pub struct Day<'a> {
     pub parts: Parts<'a>,
+    /// The limit to what each caller's own jobs are charged.
     pub steps: u32,
     jobs: &'a [u8],
 }
@@ -76,6 +77,7 @@ impl<'a> Day<'a> {
             let (code, start) = rules.span(self.parts.code, start, length);
             let label = |at: usize| self.parts.labels()[entry.byte(at)];
             Job {
+                caller: entry.0[job::CALLER],
                 label: label(job::LABEL),
                 clearance: label(job::CLEARANCE),
                 steps: entry.short(job::STEPS),
@@ -110,7 +112,7 @@ impl Entry<'_> {
             return false;
         };
         let (code_at, code_length) = self.span();
-        self.0[job::CALLER] <= HIGHEST_CALLER
+        self.byte(job::CALLER) < CALLERS
             && self.0[job::ZERO] == 0
             && steps_hold(self.short(job::STEPS))
             && places(parts.record_count()).contains(&self.short(job::PLACES).into())

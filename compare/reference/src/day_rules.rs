@@ -2,7 +2,7 @@
 //! so that a mutant can answer one of them wrong. [`Paper`] takes them all.
 
 use crate::label::Label;
-use crate::limits::view;
+use crate::limits::{view, CALLERS};
 use crate::machine::Finished;
 use crate::parts::Job;
 use crate::rules::{Paper, Rules};
@@ -28,14 +28,26 @@ pub trait DayRules: Rules {
         (&code[start..start + length], 0)
     }
 
-    /// Whether a job may run with so much of the day's steps left.
-    fn admits(&self, declared: u16, left: u32) -> bool {
-        u32::from(declared) <= left
+    /// What each caller may spend at first, in a day with this limit.
+    fn allowances(&self, limit: u32, _jobs: &[Job]) -> Allowances {
+        [limit; CALLERS]
     }
 
-    /// What the day is charged for a job that ran, or was skipped.
-    fn charged(&self, job: &Job, ran: Option<&Finished>) -> u32 {
-        ran.map_or(0, |_| job.steps.into())
+    /// Whose allowance the job at `index` of the day is measured by.
+    fn account(&self, job: &Job, _index: usize) -> usize {
+        job.caller.into()
+    }
+
+    /// Whether a job that declares so many steps may run.
+    fn admits(&self, declared: u16, account: usize, left: &Allowances) -> bool {
+        u32::from(declared) <= left[account]
+    }
+
+    /// Takes down what is left, for a job that ran or was skipped.
+    fn charge(&self, left: &mut Allowances, account: usize, job: &Job, ran: Option<&Finished>) {
+        if ran.is_some() {
+            left[account] -= u32::from(job.steps);
+        }
     }
 
     /// The store that the next job finds. `before` is what this one found, and
@@ -62,13 +74,16 @@ pub trait DayRules: Rules {
     /// A job is about to start, behind those that ran.
     fn starting(&self, _run: &mut Run, _last: Option<&Finished>) {}
 
-    /// A job has ended with so much of the day's steps left before it. Its view
-    /// is not yet fixed.
-    fn ended(&self, _finished: &mut Finished, _job: &Job, _left: u32, _inputs: usize) {}
+    /// A job has ended that found its caller with this allowance. Its view is not
+    /// yet fixed.
+    fn ended(&self, _finished: &mut Finished, _job: &Job, _allowance: u32, _inputs: usize) {}
 
     /// The views are known, and check 9 is next.
     fn before_check(&self, _views: &[u8], _buffer: &mut [u8]) {}
 }
+
+/// The steps that each caller has left, by its number.
+pub type Allowances = [u32; CALLERS];
 
 /// The ending of a skipped job.
 pub const SKIPPED: u16 = 4;

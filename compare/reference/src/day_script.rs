@@ -15,7 +15,7 @@ pub struct DayScript {
 }
 
 /// The fields of a job, in their order.
-#[derive(Clone, Copy, Debug)]
+#[derive(Clone, Copy, Debug, PartialEq, Eq)]
 pub struct JobEntry {
     pub caller: u8,
     pub label: u8,

@@ -47,7 +47,7 @@ impl<'a> File<'a> {
         }
         let parts = sections.parts(bytes)?;
         let (label, clearance) = (parts.labels()[0], parts.labels()[1]);
-        let job = Job { label, clearance, steps, places: allotted, code: parts.code, start: 0 };
+        let job = Job { caller: 0, label, clearance, steps, places: allotted, code: parts.code, start: 0 };
         Ok(File { parts, job })
     }
 }

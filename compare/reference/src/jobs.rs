@@ -20,21 +20,22 @@ pub enum Outcome<'a> {
 /// Runs the jobs of a day that stood up to checks 1 to 7 and 10.
 pub fn run<'a, R: DayRules>(day: &Day<'a>, rules: &R) -> Vec<Outcome<'a>> {
     let inputs = day.parts.record_count();
+    let jobs: Vec<Job> = day.jobs(rules).collect();
     let mut store = Store::new(&day.parts);
-    let mut left = day.steps;
+    let mut left = rules.allowances(day.steps, &jobs);
     let mut outcomes = Vec::new();
-    for job in day.jobs(rules) {
-        if !rules.admits(job.steps, left) {
-            left = left.saturating_sub(rules.charged(&job, None));
+    for (index, job) in jobs.into_iter().enumerate() {
+        let account = rules.account(&job, index);
+        if !rules.admits(job.steps, account, &left) {
+            rules.charge(&mut left, account, &job, None);
             outcomes.push(Outcome::Skipped(job));
             continue;
         }
         let mut run = Run::outermost(&job, inputs);
         rules.starting(&mut run, last(&outcomes));
         let mut finished = machine::run_job(&day.parts, &job, run, store.clone(), rules);
-        rules.ended(&mut finished, &job, left, inputs);
-        // By the paper no more is charged than is left.
-        left = left.saturating_sub(rules.charged(&job, Some(&finished)));
+        rules.ended(&mut finished, &job, left[account], inputs);
+        rules.charge(&mut left, account, &job, Some(&finished));
         store = rules.handed_on(store, &finished, inputs);
         outcomes.push(Outcome::Ran(finished));
     }

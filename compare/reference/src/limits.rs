@@ -52,7 +52,8 @@ pub mod day_header {
 
 pub const MAX_JOBS: usize = 16;
 pub const JOBS: RangeInclusive<usize> = 1..=MAX_JOBS;
-pub const HIGHEST_CALLER: u8 = 15;
+/// Callers are numbered from 0.
+pub const CALLERS: usize = 16;
 
 /// Byte offsets within one job of a day.
 pub mod job {

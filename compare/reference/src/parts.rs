@@ -34,6 +34,8 @@ impl Refusal {
 /// A script and what it is given: the only one of a plain file, or a day's job.
 #[derive(Clone, Copy, Debug)]
 pub struct Job<'a> {
+    /// Whose job it is. Nothing hangs on that of a plain file, which is 0.
+    pub caller: u8,
     pub label: Label,
     pub clearance: Label,
     pub steps: u16,

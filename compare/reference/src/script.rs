@@ -27,7 +27,7 @@ impl Clauses {
     }
 }
 
-#[derive(Clone, Copy, Debug)]
+#[derive(Clone, Copy, Debug, PartialEq, Eq)]
 pub struct Input {
     pub kind: u8,
     pub label: u8,

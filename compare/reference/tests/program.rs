@@ -66,7 +66,7 @@ fn what_it_cannot_do_is_an_error() {
     }
 }
 
-/// L 2, C 0, J 2, 10 steps for the day; both jobs PUSH 5, END, with 10 steps each.
+/// L 2, C 0, J 2, a limit of 10 steps; both jobs, of one caller, PUSH 5, END, with 10 steps each.
 fn day() -> Vec<u8> {
     let job = [0, 0, 1, 0, 10, 0, 0, 0, 0, 0, 6, 0];
     let header = [2, 0, 20, 0, 0, 0, 25, 0, 2, 0, 25, 0, 6, 0, 49, 0, 10, 0, 0, 0];

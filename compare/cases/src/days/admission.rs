@@ -1,7 +1,9 @@
-//! Which jobs run, and what the day is charged for them.
+//! Which jobs of one caller run, and what the caller is charged for them. For several
+//! callers see [`super::callers`].
 
-use super::{add, day, ends, fault, five, number, DayCase, JobEnds, FIRST};
+use super::{add, day, ends, fault, five, number, one_caller, DayCase, JobEnds, CALLER, FIRST};
 use crate::label;
+use reference::day_script::DayScript;
 use reference::opcode::THROW;
 use reference::script::Code;
 use reference::value::{Ending, Fault, Value};
@@ -11,19 +13,32 @@ pub fn cases() -> Vec<DayCase> {
     [limits(), charges(), large()].concat()
 }
 
-/// Jobs that declare so many steps and use two of them.
-fn declaring(name: &str, steps: u32, declared: &[u16], expected: &[JobEnds]) -> DayCase {
+pub const SPENT: JobEnds = JobEnds::Ends(Ending::Spent);
+/// What becomes of [`five`] with two steps or more.
+pub const RUNS: JobEnds = JobEnds::Ends(Ending::Result(Value::Number(5)));
+
+/// A day without records, so that its views are short, and with this limit.
+pub fn small(limit: u32) -> DayScript {
     let mut day = day();
-    day.steps = steps;
-    for &steps in declared {
-        add(&mut day, five);
-        day.jobs.last_mut().expect("a job was added").steps = steps;
-    }
-    ends(name, expected, &day)
+    day.labels.truncate(2);
+    day.records.clear();
+    day.steps = limit;
+    day
 }
 
-const SPENT: JobEnds = JobEnds::Ends(Ending::Spent);
-const RUNS: JobEnds = JobEnds::Ends(Ending::Result(Value::Number(5)));
+/// Adds a job of this caller that declares so many steps.
+pub fn add_called(day: &mut DayScript, caller: u8, steps: u16, write: fn(&mut Code)) {
+    add(day, write);
+    let job = day.jobs.last_mut().expect("a job was added");
+    (job.caller, job.steps) = (caller, steps);
+}
+
+/// Jobs of one caller that declare so many steps and use two of them.
+fn declaring(name: &str, limit: u32, declared: &[u16], expected: &[JobEnds]) -> DayCase {
+    let mut day = small(limit);
+    declared.iter().for_each(|&steps| add_called(&mut day, CALLER, steps, five));
+    ends(name, expected, &day)
+}
 
 fn limits() -> Vec<DayCase> {
     vec![
@@ -42,25 +57,25 @@ fn charges() -> Vec<DayCase> {
         declaring("two skipped jobs", 20, &[15, 10, 10, 5, 1], &[RUNS, Skipped, Skipped, RUNS, Skipped]),
         declaring("declared steps are charged", 20, &[15, 15], &[RUNS, Skipped]),
         declaring("a job is measured by what is left", 20, &[15, 6, 5], &[RUNS, Skipped, RUNS]),
-        after("a spent job is charged", Ending::Spent, |code| {
-            let again = code.here();
-            code.jump(again);
-        }),
-        after("a fault's job is charged", Ending::Fault(Fault::thrown(1)), |code| {
-            code.push(1).op(THROW);
-        }),
+        after("a spent job is charged", Ending::Spent, spin),
+        after("a fault's job is charged", Ending::Fault(Fault::thrown(1)), throw),
     ]
+}
+
+pub fn spin(code: &mut Code) {
+    let again = code.here();
+    code.jump(again);
+}
+
+pub fn throw(code: &mut Code) {
+    code.push(1).op(THROW);
 }
 
 /// A job of 10 steps that ends so, then one of 11 and one of 10, in a day of 20.
 fn after(name: &str, ending: Ending, write: fn(&mut Code)) -> DayCase {
-    let mut day = day();
-    day.steps = 20;
-    add(&mut day, write);
-    add(&mut day, five);
-    add(&mut day, five);
-    for (job, steps) in day.jobs.iter_mut().zip([10, 11, 10]) {
-        job.steps = steps;
+    let mut day = small(20);
+    for (steps, write) in [(10, write), (11, five), (10, five)] {
+        add_called(&mut day, CALLER, steps, write);
     }
     ends(name, &[JobEnds::Ends(ending), Skipped, number(5)], &day)
 }
@@ -78,16 +93,16 @@ fn large() -> Vec<DayCase> {
     ]
 }
 
-/// A block is charged to its job, and to the day only with the job's steps.
+/// A block is charged to its job, and to the caller only with the job's steps.
 fn block() -> DayCase {
     let mut day = day();
-    day.steps = 2000;
     add(&mut day, |code| {
         let body = code.target();
         code.lab(label::PUBLIC).block(body, 900, 0).end();
         code.place(body).push(1).end();
     });
     add(&mut day, |code| _ = code.end());
+    one_caller(&mut day, 2000, &[1000, 1000]);
     let handle = JobEnds::Ends(Ending::Result(Value::Sealed(FIRST)));
     ends("a block's steps are the job's", &[handle, fault(20)], &day)
 }

@@ -1,6 +1,6 @@
 //! Jobs whose caught faults give a clearance back, and jobs behind them.
 
-use super::{add, add_bytes, day, ends, five, number, of, thrown, DayCase, JobEnds};
+use super::{add, add_bytes, day, ends, five, number, of, one_caller, thrown, DayCase, JobEnds};
 use crate::bodies::{self, lower_and_throw};
 use crate::clearances::{self, check, lower, one, throw};
 use crate::kept;
@@ -98,10 +98,7 @@ fn own_clearances() -> DayCase {
 
 fn behind_skipped() -> DayCase {
     let mut day = of(&[player_again, open_again, open_again]);
-    day.steps = 200;
-    for (job, steps) in day.jobs.iter_mut().zip([100, 101, 100]) {
-        job.steps = steps;
-    }
+    one_caller(&mut day, 200, &[100, 101, 100]);
     day.jobs[0].clearance = PLAYER;
     ends("a clearance behind a skipped job", &[number(1), JobEnds::Skipped, number(7)], &day)
 }

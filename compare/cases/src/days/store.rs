@@ -1,7 +1,9 @@
 //! What a job finds: input records as the job before left them, and all else as
 //! at a plain file's start.
 
-use super::{add, add_bytes, day, ends, fault, five, number, of, DayCase, JobEnds, FIRST, INPUTS};
+use super::{
+    add, add_bytes, day, ends, fault, five, number, of, one_caller, DayCase, JobEnds, FIRST, INPUTS,
+};
 use crate::label;
 use crate::record::*;
 use reference::label::{Label, TRUE};
@@ -177,15 +179,20 @@ fn own_labels() -> DayCase {
 /// A skipped job between two others.
 fn between() -> Vec<DayCase> {
     let mut day = of(&[write_nine, add_one, read_public]);
-    day.steps = 20;
-    for (job, steps) in day.jobs.iter_mut().zip([10, 11, 10]) {
-        job.steps = steps;
-    }
+    one_caller(&mut day, 20, &[10, 11, 10]);
+    let mut by_turns = of(&[add_one, add_one, add_one, add_one]);
+    one_caller(&mut by_turns, 20, &[10, 10, 11, 10]);
+    (by_turns.jobs[0].caller, by_turns.jobs[2].caller) = (7, 7);
     let mut one_byte = of(&[write_nine]);
     add_bytes(&mut one_byte, &[END]);
     add(&mut one_byte, read_public);
     vec![
         ends("a skipped job writes nothing", &[number(5), JobEnds::Skipped, number(9)], &day),
+        ends(
+            "two callers' jobs run in the day's order",
+            &[number(7), number(8), JobEnds::Skipped, number(9)],
+            &by_turns,
+        ),
         ends("a job of one byte between two", &[number(5), fault(20), number(9)], &one_byte),
     ]
 }

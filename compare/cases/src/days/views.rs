@@ -1,6 +1,6 @@
 //! Days whose views are long, or differ from reader to reader.
 
-use super::{add, add_bytes, day, ends, fault, five, number, of, DayCase, JobEnds};
+use super::{add_bytes, day, ends, fault, five, number, of, one_caller, DayCase, JobEnds};
 use crate::label;
 use crate::record::*;
 use reference::day_script::DayScript;
@@ -26,10 +26,7 @@ pub fn lengths() -> DayScript {
         five,
         |code| _ = code.input(REFERENCE_PUBLIC).ops(&[READ, END]),
     ]);
-    day.steps = 100;
-    for (job, steps) in day.jobs.iter_mut().zip([40, 40, 21, 20]) {
-        job.steps = steps;
-    }
+    one_caller(&mut day, 100, &[40, 40, 21, 20]);
     day
 }
 
@@ -51,10 +48,7 @@ pub fn long() -> DayScript {
 }
 
 fn own_steps() -> DayScript {
-    let mut day = day();
-    add(&mut day, five);
-    add(&mut day, five);
-    day.steps = 70_000;
-    day.jobs[0].steps = u16::MAX;
+    let mut day = of(&[five, five]);
+    one_caller(&mut day, 70_000, &[u16::MAX, 1000]);
     day
 }
