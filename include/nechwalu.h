@@ -120,7 +120,8 @@ size_t nechwalu_read(const uint8_t *file, size_t file_length, size_t reader, uin
  * together, which is 62 or more, and leaves `buffer` behind them as it was. The views of a day have at most
  * 16 * 9278 = 148448 bytes.
  *
- * A job that is skipped has a view too, the same for every reader: NECHWALU_SHORTEST_VIEW bytes with
+ * Each caller has the day's steps for its own jobs. A job that declares more than its caller has left is skipped,
+ * whatever other callers' jobs do. It has a view too, the same for every reader: NECHWALU_SHORTEST_VIEW bytes with
  * NECHWALU_ENDING_SKIPPED, 62 at NECHWALU_AT_RECORDS_START and at NECHWALU_AT_LENGTH, and 0 elsewhere.
  *
  * No file is both a script file and a day: what one of the two calls reads, the other refuses. What is allowed is as for

@@ -20,9 +20,9 @@ use Rattle.day_file.specs.Loading.{loadedDay}
 use Rattle.day_file.specs.Parts.{DayLoads}
 use Rattle.day_file.specs.declared.Loaded.the-variants.{Refused}
 use Rattle.day_file.proofs.Answers.{refused-number}
-use Rattle.day.specs.Running.{dayTurns}
+use Rattle.day_jobs.specs.Running.{dayTurns}
 use Rattle.day.specs.Views.{turnViews, dayView, dayReading}
-use Rattle.day.proofs.Jobs.{labels-are}
+use Rattle.day_jobs.proofs.Jobs.{labels-are}
 
 pub read-stopped : (bs : List ℕ) (i : ℕ) (b : List ℕ) (n : ℕ) → Refused n ≡ loadedDay bs → refuse n b ≡ dayReading bs i b
 unfolding dayReading

@@ -1,7 +1,5 @@
 -- Laws that the proofs of the functions cite.
-pub mod JobEnd
-pub mod Jobs
 pub mod Turns
 pub mod Views
-pub mod Between
+pub mod Most
 pub mod Answers

@@ -1,5 +1,5 @@
 -- The views of a day on their way into the buffer, and how long they can get.
-use mathlib.Core.Bool.{Bool}
+use mathlib.Core.Bool.{Bool, true, false}
 use mathlib.Core.List.{List, _++_}
 use mathlib.Core.Logic.{⊎-elim}
 use mathlib.Core.Path.{_≡_, refl, sym, ap, _∙_}
@@ -30,12 +30,18 @@ use Rattle.day_file.specs.declared.Job.{Job}
 use Rattle.day_file.specs.Sections.{dayHeader, dayInputs}
 use Rattle.day_file.specs.Parts.{DayLoads}
 use Rattle.day_file.proofs.Findings.{recordsIn}
-use Rattle.day.specs.JobEnd.{endJob}
-use Rattle.day.specs.Running.{ran, jobRun, storeAfter, dayTurns}
+use Rattle.admission.specs.declared.Allowance.{Allowance}
+use Rattle.admission.specs.declared.Admission.{Admission}
+use Rattle.admission.specs.Admission.{fits, allowed, leftAfter, dayAdmitted}
+use Rattle.admission.specs.Allowances.{admissionOf, allowancesOf}
+use Rattle.admission.proofs.Allowances.{Holds, at-first, answered, holds-then}
+use Rattle.day_jobs.specs.JobEnd.{endJob}
+use Rattle.day_jobs.specs.Running.{ran, jobRun, storeAfter, dayTurns}
 use Rattle.day.specs.Views.{skippedView, turnView, turnViews}
 use Rattle.day.specs.Parts.{shownAt}
-use Rattle.day.proofs.Jobs.{records-are, counted, labels-are}
-use Rattle.day.proofs.Turns.{job, made, made-skipped, made-ran, made-nothing, made-all, Shows, shows-none, shows-more, shows-all}
+use Rattle.day_jobs.proofs.Jobs.{records-are, counted, labels-are}
+use Rattle.day_jobs.proofs.Turns.{job}
+use Rattle.day.proofs.Turns.{made, made-skipped, made-ran, made-nothing, made-all, Shows, shows-none, shows-more, shows-all}
 
 -- ── a view from a place of the buffer on ──
 
@@ -80,8 +86,8 @@ module _ (Reads : Label → Bool) (bs : List ℕ) where
   abbrev whole : List ℕ
   whole = turnViews Reads (dayTurns bs)
 
-  -- the views of the jobs from job k on, with so many steps left and the records in `store`
-  abbrev left-over : ℕ → ℕ → List ℕ → List ℕ
+  -- the views of the jobs from job k on, with so many steps left to each caller and the records in `store`
+  abbrev left-over : ℕ → (ℕ → ℕ) → List ℕ → List ℕ
   left-over k left store = made (turnView Reads) bs (dayHeader bs .jobs .offset) (dayHeader bs .jobs .count) k left (slots store)
 
   -- job k
@@ -89,62 +95,77 @@ module _ (Reads : Label → Bool) (bs : List ℕ) where
   jobAt k = job bs (dayHeader bs .jobs .offset) (dayHeader bs .jobs .count) k
 
   -- the jobs below k have had their turn; the buffer was b₀ and is b, filled up to `at`
-  pub record Served (b₀ b store : List ℕ) (left at k : ℕ) : Type 0 where
+  pub record Served (b₀ b store : List ℕ) (callers : List Allowance) (at k : ℕ) : Type 0 where
+    pub left : ℕ → ℕ
+    pub allowances : Holds callers left
     pub some : k ≤ dayHeader bs .jobs .count
     pub few : at ≤ 9278 * k
     pub size : length store ≡ words
     pub shows : Shows whole (left-over k left store) b₀ b at
 
-  pub none-served : (b store : List ℕ) (left : ℕ) → left ≡ dayHeader bs .steps → length store ≡ words
-      → slots store ≡ startStore (inputSlots (dayInputs bs)) → Served b b store left 0 0
-  unfolding dayTurns
-  none-served b store left e z s =
+  pub none-served : (b store : List ℕ) (callers : List Allowance) → callers ≡ allowancesOf (dayHeader bs .steps) → length store ≡ words
+      → slots store ≡ startStore (inputSlots (dayInputs bs)) → Served b b store callers 0 0
+  unfolding dayTurns dayAdmitted
+  none-served b store callers e z s =
       record {
+        left = allowed (dayHeader bs .steps);
+        allowances = rw e (at-first (dayHeader bs .steps));
         some = omega arith;
         few = omega arith;
         size = z;
-        shows = shows-none (rw (e, s) (made-all (turnView Reads) bs (dayHeader bs .jobs .offset) (dayHeader bs .jobs .count) (dayHeader bs .steps) (startStore (inputSlots (dayInputs bs)))));
+        shows = shows-none (rw s (made-all (turnView Reads) bs (dayHeader bs .jobs .offset) (dayHeader bs .jobs .count) (allowed (dayHeader bs .steps)) (startStore (inputSlots (dayInputs bs)))));
       }
 
-  -- job k, which is j, has its turn
-  module _ {b₀ b store : List ℕ} {left at k : ℕ} (w : Served b₀ b store left at k) (h : k < dayHeader bs .jobs .count) {j : Job} (is : j ≡ jobAt k) where
-    pub one-skipped : left < j .steps → {b′ : List ℕ} → b′ ≡ shownAt at skippedView b → length b′ ≡ length b
-        → {n : ℕ} → n ≡ 62 → Served b₀ b′ store left (at + n) (k + 1)
+  -- job k, which is j, has its turn, and is answered so
+  module _ {b₀ b store : List ℕ} {callers : List Allowance} {at k : ℕ} (w : Served b₀ b store callers at k) (h : k < dayHeader bs .jobs .count) {j : Job} (is : j ≡ jobAt k) (small : j .caller < 16)
+      {a : Admission} (asked : a ≡ admissionOf callers (j .caller) (j .steps)) where
+    fitting : {t : Bool} → a .admitted ≡ t → fits (w .left (j .caller)) (j .steps) ≡ t
+    fitting = answered (w .allowances) j small asked
+
+    allowances-then : Holds (a .callers) (leftAfter (w .left) j)
+    allowances-then = holds-then (w .allowances) j small asked
+
+    pub one-skipped : a .admitted ≡ false → {b′ : List ℕ} → b′ ≡ shownAt at skippedView b → length b′ ≡ length b
+        → {n : ℕ} → n ≡ 62 → Served b₀ b′ store (a .callers) (at + n) (k + 1)
     unfolding turnView
     one-skipped s q z e =
         record {
+          left = leftAfter (w .left) j;
+          allowances = allowances-then;
           some = omega arith;
           few = omega (arith, w .few);
           size = w .size;
           shows =
               shows-more (w .shows) skippedView
-              (made-skipped (turnView Reads) bs (dayHeader bs .jobs .offset) (dayHeader bs .jobs .count) k left (slots store) h (rw is at s)) (e ∙ sym length-skipped) q z;
+              (rw is (made-skipped (turnView Reads) bs (dayHeader bs .jobs .offset) (dayHeader bs .jobs .count) k (w .left) (slots store) h (rw is at (fitting s)))) (e ∙ sym length-skipped) q z;
         }
 
     -- its view, and the views behind it
-    view-here : j .steps ≤ left → (next : List ℕ) → slots next ≡ storeAfter bs j (slots store)
-        → left-over k left store ≡ view Reads (j .steps) (jobRun bs j (slots store)) ++ left-over (k + 1) (left - j .steps) next
+    view-here : a .admitted ≡ true → (next : List ℕ) → slots next ≡ storeAfter bs j (slots store)
+        → left-over k (w .left) store ≡ view Reads (j .steps) (jobRun bs j (slots store)) ++ left-over (k + 1) (leftAfter (w .left) j) next
     unfolding turnView
-    view-here s next after =
-        rw (after, is)
-        (made-ran (turnView Reads) bs (dayHeader bs .jobs .offset) (dayHeader bs .jobs .count) k left (slots store) h (rw is at s))
+    view-here s next then =
+        rw (then, is)
+        (made-ran (turnView Reads) bs (dayHeader bs .jobs .offset) (dayHeader bs .jobs .count) k (w .left) (slots store) h (rw is at (fitting s)))
 
-    pub one-ran : j .steps ≤ left → {next : List ℕ} → length next ≡ words → slots next ≡ storeAfter bs j (slots store)
+    pub one-ran : a .admitted ≡ true → {next : List ℕ} → length next ≡ words → slots next ≡ storeAfter bs j (slots store)
         → {n : ℕ} → n ≤ 9278 → n ≡ length (view Reads (j .steps) (jobRun bs j (slots store)))
         → {b′ : List ℕ} → b′ ≡ shownAt at (view Reads (j .steps) (jobRun bs j (slots store))) b → length b′ ≡ length b
-        → Served b₀ b′ next (left - j .steps) (at + n) (k + 1)
-    one-ran s {next} z after {n} small e q same =
+        → Served b₀ b′ next (a .callers) (at + n) (k + 1)
+    one-ran s {next} z then {n} few e q same =
         record {
+          left = leftAfter (w .left) j;
+          allowances = allowances-then;
           some = omega arith;
           few = omega (arith, w .few);
           size = z;
-          shows = shows-more (w .shows) (view Reads (j .steps) (jobRun bs j (slots store))) (view-here s next after) e q same;
+          shows = shows-more (w .shows) (view Reads (j .steps) (jobRun bs j (slots store))) (view-here s next then) e q same;
         }
 
-  module _ {b₀ b store : List ℕ} {left at k : ℕ} (w : Served b₀ b store left at k) where
+  module _ {b₀ b store : List ℕ} {callers : List Allowance} {at k : ℕ} (w : Served b₀ b store callers at k) where
     pub all-served : dayHeader bs .jobs .count ≤ k → (at ≡ length whole) × (length whole ≤ length b₀ → b ≡ over whole b₀)
     all-served h =
-        shows-all (w .shows) (made-nothing (turnView Reads) bs (dayHeader bs .jobs .offset) (dayHeader bs .jobs .count) k left (slots store) h)
+        shows-all (w .shows) (made-nothing (turnView Reads) bs (dayHeader bs .jobs .offset) (dayHeader bs .jobs .count) k (w .left) (slots store) h)
 
 -- ── a job that is served ──
 

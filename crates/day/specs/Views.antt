@@ -10,7 +10,7 @@ use Rattle.view.specs.Layout.{recordsAt, view}
 use Rattle.view.specs.Reading.{Reading, answered}
 use Rattle.day_file.specs.Sections.{dayHeader, dayLabel}
 use Rattle.day_file.specs.Checks.{dayRefusal}
-use Rattle.day.specs.Running.{Turn, skipped, ran, dayTurns}
+use Rattle.day_jobs.specs.Running.{Turn, skipped, ran, dayTurns}
 
 -- "Its view is 62 bytes with ending 4 (skipped ...), shown to all, both length fields, and the rest 0."
 unfoldable pub skippedView : List ℕ

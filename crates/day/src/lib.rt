@@ -2,12 +2,7 @@
 use day_file::Header;
 use day_file::Job;
 use labels::Label;
-use model::Contents;
-use model::Datum;
 use model::Finished;
-use model::Record;
-use model::Slot;
-use store::PLACES;
 use store::STORE;
 use view::Answer;
 use view::FINAL;
@@ -18,10 +13,8 @@ use view_fields::RECORD;
 ghost use mathlib.Core.Path.{_≡_};
 ghost use Prim.Native.Nat.{_≤_, _<_, _^_};
 ghost use lib.Dec.{leb};
-ghost use lib.ListN.{length, set};
-ghost use Rattle.model.specs.State.{at as slotAt};
+ghost use lib.ListN.{length};
 ghost use Rattle.store.specs.Slots.{words, slots};
-ghost use Rattle.machine.specs.Steps.{Finishes};
 ghost use Rattle.view_fields.specs.Writing.{over};
 ghost use Rattle.view.specs.Layout.{view as viewOf};
 ghost use Rattle.view.specs.Writing.{observes, finished};
@@ -29,104 +22,10 @@ ghost use Rattle.reading.specs.Answers.{reads};
 ghost use Rattle.day_file.specs.Sections.{dayHeader, dayJobs};
 ghost use Rattle.day_file.specs.Checks.{dayRefusal};
 ghost use Rattle.day_file.specs.Parts.{DayLoads};
-ghost use Rattle.day.specs.JobEnd.{keptDatum, keptContents, endSlot, endJob};
-ghost use Rattle.day.specs.Running.{jobRun, storeAfter, dayTurns};
+ghost use Rattle.day_jobs.specs.Running.{jobRun, storeAfter, dayTurns};
+ghost use Rattle.day_jobs.specs.Parts.{Runnable};
 ghost use Rattle.day.specs.Views.{skippedView, turnViews, dayReading};
-ghost use Rattle.day.specs.Parts.{Runnable, shownAt, mostBytes};
-
-// ---- the end of a job, of a day with `count` input records
-
-fn kept_datum(count: usize, d: Datum) -> Contents
-    ensures { λ r. ⌜ r ≡ keptDatum count d ⌝ }
-{
-    match d {
-        Datum::Number(n) => Contents::Value(Datum::Number(n)),
-        Datum::Label(l) => Contents::Value(Datum::Label(l)),
-        Datum::Handle(kind, p) => {
-            if count <= p {
-                return Contents::Fault(33, 0);
-            }
-            Contents::Value(Datum::Handle(kind, p))
-        }
-    }
-}
-
-fn kept_contents(count: usize, contents: Contents) -> Contents
-    ensures { λ r. ⌜ r ≡ keptContents count contents ⌝ }
-{
-    match contents {
-        Contents::Value(d) => kept_datum(count, d),
-        Contents::Fault(code, number) => Contents::Fault(code, number),
-    }
-}
-
-// Keeps an input record, and empties any other place.
-fn end_place(store: &mut [u64], count: usize, p: usize)
-    requires { ⌜ length (now store) ≡ words ⌝ }
-    ensures { λ _. ⌜ slots (now (store .exit)) ≡ set (slots (now (store .entry))) p (endSlot count p (slotAt (slots (now (store .entry))) p)) ⌝ }
-{
-    if count <= p {
-        store::clear(store, p);
-        return;
-    }
-    match store::load(store, p) {
-        Slot::Empty => {}
-        Slot::Full(r) => {
-            let kind = r.kind;
-            let label = r.label;
-            let held = r.contents;
-            let contents = kept_contents(count, held);
-            store::save(
-                store,
-                p,
-                Record {
-                    kind,
-                    label,
-                    contents,
-                },
-            );
-        }
-    }
-}
-
-pub fn end_job(store: &mut [u64], count: usize)
-    requires { ⌜ length (now store) ≡ words ⌝ }
-    ensures { λ _. ⌜ slots (now (store .exit)) ≡ endJob count (slots (now (store .entry))) ⌝ }
-{
-    let mut p = 0;
-    while p < PLACES {
-        end_place(store, count, p);
-        p += 1;
-    }
-}
-
-// ---- a job
-
-// Runs a job of a day that loads, on the store as the job before left it.
-pub fn run_job(file: &[u8], h: Header, labels: &[u64], job: Job, store: &mut [u64]) -> Finished
-    requires { ⌜ DayLoads (now file) h (now labels) × (length (now labels) ≡ 64) × (length (now store) ≡ words) × Runnable h job (now file) ⌝ }
-    ensures { λ r. ⌜ Finishes r (slots (now (store .exit))) (jobRun (now (file .entry)) job (slots (now (store .entry)))) ⌝ }
-{
-    let records = h.records;
-    let jobs = h.jobs;
-    let code = h.code;
-    let a = records.offset;
-    let b = jobs.offset;
-    let first = code.offset + job.start;
-    let end = first + job.length;
-    let label = operands::label_at(labels, job.label);
-    let clearance = operands::label_at(labels, job.clearance);
-    machine::execute(
-        &file[first..end],
-        labels,
-        &file[a..b],
-        label,
-        clearance,
-        job.steps,
-        job.places,
-        store,
-    )
-}
+ghost use Rattle.day.specs.Parts.{shownAt, mostBytes};
 
 // ---- the views
 
@@ -188,9 +87,9 @@ fn serve_job(
 {
     let records = h.records;
     let steps = job.steps;
-    let finish = run_job(file, h, labels, job, store);
+    let finish = day_jobs::run_job(file, h, labels, job, store);
     let n = show_run(reader, steps, finish, store, at, out);
-    end_job(store, records.count);
+    day_jobs::end_job(store, records.count);
     n
 }
 
@@ -207,16 +106,17 @@ fn write_views(file: &[u8], h: Header, labels: &[u64], reader: Label, out: &mut 
     let count = jobs.count;
     let mut store = [0u64; STORE];
     reading::place_inputs(&file[a..b], labels, &mut store);
-    let mut left = h.steps;
+    let mut callers = admission::full_allowances(h.steps);
     let mut at = 0;
     let mut k = 0;
     while k < count {
         let job = day_file::job_at(file, b + 12 * k);
-        if left < job.steps {
-            at += show_skipped(at, out);
-        } else {
-            left -= job.steps;
+        let answer = admission::admit_caller(callers, job.caller, job.steps);
+        callers = answer.callers;
+        if answer.admitted {
             at += serve_job(file, h, labels, job, reader, &mut store, at, out);
+        } else {
+            at += show_skipped(at, out);
         }
         k += 1;
     }

@@ -20,7 +20,7 @@ use Rattle.lines.specs.Lines.{hex, frontFields, widths, spaced, line}
 use Rattle.file_lines.specs.Room.{longestLine}
 use Rattle.file_lines.proofs.Lengths.{line-most}
 use Rattle.day_file.specs.Sections.{dayHeader, dayLabel, jobFrom}
-use Rattle.day.specs.Running.{Turn, skipped, dayTurns}
+use Rattle.day_jobs.specs.Running.{Turn, skipped, dayTurns}
 use Rattle.day.specs.Views.{skippedView, turnView, eachTurn}
 use Rattle.day_turns.specs.Keeping.{none, turnOf, storeAt, Kept}
 use Rattle.day_turns.specs.declared.JobEnd.{JobEnd}

@@ -22,9 +22,10 @@ use Rattle.day_file.specs.declared.Job.{Job}
 use Rattle.day_file.proofs.Limits.{Fits}
 use Rattle.day_file.proofs.Tests.{AllJobs, all-map}
 use Rattle.day_file.proofs.Answers.{within-limits, in-place, jobs-fit, spans-fit}
-use Rattle.day.specs.Running.{jobProgram, jobAccount, jobRun, storeAfter, Turn, skipped, ran, turns, admitted, dayTurns}
+use Rattle.admission.specs.Admission.{dayAdmitted}
+use Rattle.day_jobs.specs.Running.{jobProgram, jobAccount, jobRun, storeAfter, Turn, skipped, ran, turns, dayTurns}
 use Rattle.day.specs.Views.{skippedView, turnView}
-use Rattle.day.proofs.Between.{Free, count-inputs, start-free, job-fresh, job-sized, after-free}
+use Rattle.day_jobs.proofs.Between.{Free, count-inputs, start-free, job-fresh, job-sized, after-free}
 use Rattle.noninterference.proofs.Demand3.{preorder}
 use Rattle.noninterference.proofs.Accepted.{OnCode, every-label, reached-on-code, start-closed}
 use Rattle.day_noninterference.proofs.JobEnd.{other-program}
@@ -34,7 +35,7 @@ use Rattle.day_noninterference.proofs.Turns.{Between, betweenJobs, afte
 
 -- The day comes to a store with these jobs left, of which these are admitted.
 pub data Comes (bs : List ℕ) : List Job → List Bool → Store → Type 0 where
-  starts : Comes bs (dayJobs bs) (admitted (dayHeader bs .steps) (dayJobs bs)) (startStore (inputSlots (dayInputs bs)))
+  starts : Comes bs (dayJobs bs) (dayAdmitted bs) (startStore (inputSlots (dayInputs bs)))
   skips : {j : Job} {js : List Job} {ads : List Bool} {σ : Store} → Comes bs (j ∷ js) (false ∷ ads) σ → Comes bs js ads σ
   ends : {j : Job} {js : List Job} {ads : List Bool} {σ : Store} → Comes bs (j ∷ js) (true ∷ ads) σ → Comes bs js ads (storeAfter bs j σ)
 
@@ -139,6 +140,6 @@ module _ (bs : List ℕ) (i : ℕ) where
   pub day-view-lengths : dayRefusal bs ≡ 0 → AllTurns (LengthTold bs i) (dayTurns bs)
   unfolding dayTurns
   day-view-lengths none =
-      turn-lengths (dayJobs bs) (admitted (dayHeader bs .steps) (dayJobs bs)) (startStore (inputSlots (dayInputs bs)))
+      turn-lengths (dayJobs bs) (dayAdmitted bs) (startStore (inputSlots (dayInputs bs)))
       (all-map (λ j f. f .places) (dayJobs bs) (jobs-fit bs none))
       (start-free bs (dayInputs bs) (count-inputs bs) (omega (arith, within-limits bs none .records)))

@@ -18,10 +18,12 @@ use Rattle.day_file.specs.Sections.{dayHeader, daySections, dayLabel, dayInputs
 use Rattle.day_file.specs.Checks.{spanOk, passes1, passes2, passes3, passes4, passes7, passes10, dayRefusal}
 use Rattle.day_file.proofs.Tests.{all-map}
 use Rattle.day_file.proofs.Answers.{within-limits, jobs-fit}
-use Rattle.day.specs.Running.{jobProgram, jobAccount, jobRun, storeAfter, skipped, ran, Turn, turns, admitted, dayTurns}
-use Rattle.day.specs.JobEnd.{endJob}
+use Rattle.admission.specs.Admission.{dayAdmitted}
+use Rattle.admission.proofs.Callers.{by-jobs}
+use Rattle.day_jobs.specs.Running.{jobProgram, jobAccount, jobRun, storeAfter, skipped, ran, Turn, turns, dayTurns}
+use Rattle.day_jobs.specs.JobEnd.{endJob}
 use Rattle.day.specs.Views.{turnViews, dayView, dayReading}
-use Rattle.day.proofs.Between.{count-inputs, start-free}
+use Rattle.day_jobs.proofs.Between.{count-inputs, start-free}
 use Rattle.noninterference.specs.Alike.{SameReads}
 use Rattle.noninterference.proofs.Sections.{one-or-legible}
 use Rattle.noninterference.proofs.Demand3.{readable, same-reads}
@@ -84,12 +86,12 @@ module _ (bs cs : List ℕ) (i : ℕ) (A : DayAlike bs cs i) (lb : dayLegible bs
       same-turns bs (λ l. flows l (dayLabel bs i)) (λ l. flows l (dayLabel bs i)) (λ l e. e) (readable [] (dayLabel bs) (dayInputs bs) (dayLabel bs i))
       (dayJobs bs) ads (startStore (inputSlots (dayInputs bs))) start (all-map (λ j f. f .places) (dayJobs bs) (jobs-fit bs none)) (starts none)
       ∙ ap (turnViews (λ l. flows l (dayLabel bs i))) (turns-alike bs cs same-run (ap (λ (h : Header). h .records .count) he) (dayJobs bs) ads start)
-      ∙ ap₂ (λ (h : Header) (js : List Job). turnViews (λ l. flows l (dayLabel bs i)) (turns cs js (admitted (h .steps) js) start))
-      he (same-jobs bs cs i A lb lc)
+      ∙ ap₂ (λ (js : List Job) (ys : List Bool). turnViews (λ l. flows l (dayLabel bs i)) (turns cs js ys start))
+      (same-jobs bs cs i A lb lc) (by-jobs bs cs (ap (λ (h : Header). h .steps) he) (same-jobs bs cs i A lb lc))
       ∙ ap (λ (ls : ℕ → Label). turnViews (λ l. flows l (ls i)) (dayTurns cs)) (same-day-label bs cs i A lb lc)
     where
       ads : List Bool
-      ads = admitted (dayHeader bs .steps) (dayJobs bs)
+      ads = dayAdmitted bs
 
       start : Store
       start = startStore (inputSlots (dayInputs cs))

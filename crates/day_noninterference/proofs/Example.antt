@@ -26,27 +26,28 @@ use Rattle.day_file.specs.Sections.{dayHeader, daySections, dayLabel, jobFrom, 
 use Rattle.day_file.specs.Checks.{sizeOk, countsOk, offsetsOk, jobOk, jobsOk, spanOk, passes1, passes2, passes3, passes4, passes6, passes7, passes10, dayRefusal}
 use Rattle.view_fields.specs.Fields.{littleEndian, labelField, datumField, contentsField, endingNumber, resultField, kindByte, recordField}
 use Rattle.view.specs.Layout.{slotField, recordFields, recordsShown, counts, final, viewLength, view}
-use Rattle.day.specs.JobEnd.{keptDatum, keptContents, keptSlot, endSlot, endFrom}
-use Rattle.day.specs.Running.{jobProgram, jobAccount, jobRun, storeAfter, admitted, turns, dayTurns}
+use Rattle.day_jobs.specs.JobEnd.{keptDatum, keptContents, keptSlot, endSlot, endFrom}
+use Rattle.admission.specs.Admission.{fits, rest, allowed, leftAfter, admitted, dayAdmitted}
+use Rattle.day_jobs.specs.Running.{jobProgram, jobAccount, jobRun, storeAfter, turns, dayTurns}
 use Rattle.day.specs.Views.{skippedView, turnView, eachTurn, dayView}
 use Rattle.noninterference.specs.Alike.{inputLabel, Hidden}
 use Rattle.day_noninterference.specs.Alike.{dayLegible, DayAlike}
 
--- L 2, C 2, J 3, N 25, 35 steps. Labels: public; ⟨player, True⟩. A sealed record under ⟨player, True⟩, whose number's first byte
+-- L 2, C 2, J 3, N 25, 25 steps for each caller. Labels: public; ⟨player, True⟩. A sealed record under ⟨player, True⟩, whose number's first byte
 -- is at 27, and a public reference.
---   job 1  public, cleared to ⟨player, True⟩, 20 steps, 3 places. LAB 1; BLOCK 17, 5 steps, 0 places; PUSH 42; INPUT 1; WRITE; END;
+--   job 1  caller 0, public, cleared to ⟨player, True⟩, 20 steps, 3 places. LAB 1; BLOCK 17, 5 steps, 0 places; PUSH 42; INPUT 1; WRITE; END;
 --          and the body, from 17 on: INPUT 0; OPEN; END
---   job 2  public, cleared to public, 10 steps, 2 places. INPUT 1; READ; END
---   job 3  as job 2: the day has 5 steps left
+--   job 2  caller 1, public, cleared to public, 10 steps, 2 places. INPUT 1; READ; END
+--   job 3  as job 2, but caller 0's, who has 5 steps left
 unfoldable pub template : List ℕ
 template =
-    2 ∷ 0 ∷ 20 ∷ 0 ∷ 2 ∷ 0 ∷ 25 ∷ 0 ∷ 3 ∷ 0 ∷ 37 ∷ 0 ∷ 25 ∷ 0 ∷ 73 ∷ 0 ∷ 35 ∷ 0 ∷ 0 ∷ 0
+    2 ∷ 0 ∷ 20 ∷ 0 ∷ 2 ∷ 0 ∷ 25 ∷ 0 ∷ 3 ∷ 0 ∷ 37 ∷ 0 ∷ 25 ∷ 0 ∷ 73 ∷ 0 ∷ 25 ∷ 0 ∷ 0 ∷ 0
     ∷ 0 ∷ 0 ∷ 1 ∷ 0 ∷ 1
     ∷ 0 ∷ 1 ∷ 0 ∷ 0 ∷ 0 ∷ 0
     ∷ 1 ∷ 0 ∷ 0 ∷ 0 ∷ 0 ∷ 0
     ∷ 0 ∷ 0 ∷ 1 ∷ 0 ∷ 20 ∷ 0 ∷ 3 ∷ 0 ∷ 0 ∷ 0 ∷ 21 ∷ 0
     ∷ 1 ∷ 0 ∷ 0 ∷ 0 ∷ 10 ∷ 0 ∷ 2 ∷ 0 ∷ 21 ∷ 0 ∷ 4 ∷ 0
-    ∷ 2 ∷ 0 ∷ 0 ∷ 0 ∷ 10 ∷ 0 ∷ 2 ∷ 0 ∷ 21 ∷ 0 ∷ 4 ∷ 0
+    ∷ 0 ∷ 0 ∷ 0 ∷ 0 ∷ 10 ∷ 0 ∷ 2 ∷ 0 ∷ 21 ∷ 0 ∷ 4 ∷ 0
     ∷ 0x02 ∷ 1 ∷ 0x19 ∷ 17 ∷ 0 ∷ 5 ∷ 0 ∷ 0 ∷ 0x01 ∷ 42 ∷ 0 ∷ 0 ∷ 0 ∷ 0x1D ∷ 1 ∷ 0x18 ∷ 0x00
     ∷ 0x1D ∷ 0 ∷ 0x14 ∷ 0x00
     ∷ 0x1D ∷ 1 ∷ 0x17 ∷ 0x00 ∷ []
@@ -90,7 +91,7 @@ pub record Computed : Type 0 where
   pub opens-9 : byte (dayView (day 9) 1) 154 ≡ 9
 
 pub computed : Computed
-unfolding day template publicViews dayLegible holds table implies flowTest join wellFormed readEntry u16 u32 operandBytes known size instrs fetch after popFrom asNumber asLabel asHandle asSealed asReference arity dropFrame operate plan failTo yield openSlot labelSlot writeSlot contentsOf outcome act inputs handles inputSlots perform step resume pay run runs startStore dayHeader labelBytesOf recordBytesOf readLabels labelsOf labelOf sweep starts operandsOk instrOk mayBeLast codeOk every sizeOk countsOk offsetsOk recordsOk jobFrom jobsFrom span jobOk jobsOk spanOk passes1 passes2 passes3 passes4 passes6 passes7 passes10 dayRefusal inputsOf keptDatum keptContents keptSlot endSlot endFrom jobProgram jobAccount jobRun storeAfter admitted turns dayTurns littleEndian labelField datumField contentsField endingNumber resultField kindByte recordField shown slotField recordFields recordsShown counts final viewLength view skippedView turnView eachTurn dayView
+unfolding day template publicViews dayLegible holds table implies flowTest join wellFormed readEntry u16 u32 operandBytes known size instrs fetch after popFrom asNumber asLabel asHandle asSealed asReference arity dropFrame operate plan failTo yield openSlot labelSlot writeSlot contentsOf outcome act inputs handles inputSlots perform step resume pay run runs startStore dayHeader labelBytesOf recordBytesOf readLabels labelsOf labelOf sweep starts operandsOk instrOk mayBeLast codeOk every sizeOk countsOk offsetsOk recordsOk jobFrom jobsFrom span jobOk jobsOk spanOk passes1 passes2 passes3 passes4 passes6 passes7 passes10 dayRefusal inputsOf keptDatum keptContents keptSlot endSlot endFrom jobProgram jobAccount jobRun storeAfter fits rest allowed leftAfter admitted dayAdmitted turns dayTurns littleEndian labelField datumField contentsField endingNumber resultField kindByte recordField shown slotField recordFields recordsShown counts final viewLength view skippedView turnView eachTurn dayView
 computed =
     record {
       legible-7 = refl;

@@ -31,7 +31,7 @@ use Rattle.model.proofs.Tests.{cond-one}
 use Rattle.model.proofs.Reached.{Reached, Holds, nextPlan}
 use Rattle.day_file.specs.declared.Job.{Job}
 use Rattle.day_file.specs.Checks.{dayRefusal}
-use Rattle.day.specs.Running.{jobProgram, jobAccount}
+use Rattle.day_jobs.specs.Running.{jobProgram, jobAccount}
 use Rattle.day_noninterference.proofs.Accepted.{Comes, day-accepted}
 
 -- ── the statement ──

@@ -20,8 +20,8 @@ use Rattle.model.proofs.Tests.{cond-one}
 use Rattle.model.proofs.Kept.{shell}
 use Rattle.model.proofs.Plans.{All}
 use Rattle.model.proofs.LowEquivalence.{Twin, SharedContents, SharedSlot, LowEquivalent}
-use Rattle.day.specs.JobEnd.{keptDatum, keptContents, keptSlot, endSlot, endJob}
-use Rattle.day.proofs.JobEnd.{length-end, end-kept, end-at}
+use Rattle.day_jobs.specs.JobEnd.{keptDatum, keptContents, keptSlot, endSlot, endJob}
+use Rattle.day_jobs.proofs.JobEnd.{length-end, end-kept, end-at}
 
 -- ── what an observer sees ──
 

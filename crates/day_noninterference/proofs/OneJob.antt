@@ -18,7 +18,8 @@ use Rattle.view.specs.Layout.{view}
 use Rattle.view.specs.Reading.{fileView}
 use Rattle.day_file.specs.Sections.{dayHeader, daySections, dayLabel, dayInputs, dayJobs, jobFrom, jobsFrom, span}
 use Rattle.day_file.specs.declared.Job.{Job}
-use Rattle.day.specs.Running.{jobProgram, jobAccount, jobRun, ran, turns, admitted, dayTurns}
+use Rattle.admission.specs.Admission.{fits, allowed, admitted, dayAdmitted}
+use Rattle.day_jobs.specs.Running.{jobProgram, jobAccount, jobRun, ran, turns, dayTurns}
 use Rattle.day.specs.Views.{turnView, eachTurn, turnViews, dayView}
 
 -- Day bs has the one job j, which it admits; file cs has the same labels, records, code, steps and places, and its labels 0
@@ -48,7 +49,7 @@ module _ (bs cs : List ℕ) (j : Job) (s : SameScript bs cs j) where
   same-run = cc (same-label, same-inputs, s .count, s .code, s .steps, s .places, s .label, s .clearance)
 
   one-turn : dayTurns bs ≡ ran (j .steps) (jobRun bs j (startStore (inputSlots (dayInputs bs)))) ∷ []
-  unfolding dayTurns admitted turns
+  unfolding dayTurns dayAdmitted admitted allowed fits turns
   one-turn = rw (s .one-job, le-leb (j .steps) (dayHeader bs .steps) (s .admits))
 
   pub one-job-view : (i : ℕ) → dayView bs i ≡ fileView cs i

@@ -15,9 +15,9 @@ use Rattle.view.proofs.SameView.{same-view}
 use Rattle.day_file.specs.Sections.{dayHeader, dayLabel, dayInputs}
 use Rattle.day_file.specs.declared.Job.{Job}
 use Rattle.day_file.proofs.Tests.{AllJobs}
-use Rattle.day.specs.Running.{jobProgram, jobAccount, jobRun, storeAfter, skipped, turns}
+use Rattle.day_jobs.specs.Running.{jobProgram, jobAccount, jobRun, storeAfter, skipped, turns}
 use Rattle.day.specs.Views.{turnView, eachTurn, turnViews}
-use Rattle.day.proofs.Between.{Free, count-inputs, job-fresh, after-free}
+use Rattle.day_jobs.proofs.Between.{Free, count-inputs, job-fresh, after-free}
 use Rattle.day_noninterference.proofs.JobEnd.{end-equivalent, other-program}
 
 module _ (bs : List ℕ) where

@@ -10,7 +10,7 @@ use Rattle.model.specs.declared.Ending.the-variants.{Result}
 use Rattle.store.specs.Slots.{words, slots}
 use Rattle.view.specs.Writing.{finished}
 use Rattle.day_file.specs.Sections.{dayHeader, jobFrom}
-use Rattle.day.specs.Running.{Turn, skipped, ran, dayTurns}
+use Rattle.day_jobs.specs.Running.{Turn, skipped, ran, dayTurns}
 use Rattle.day.specs.Views.{turnView}
 use Rattle.day_turns.specs.declared.JobEnd.{JobEnd}
 

@@ -12,8 +12,8 @@ ghost use lib.ListN.{length};
 ghost use Rattle.store.specs.Slots.{words, slots};
 ghost use Rattle.machine.specs.Steps.{Finishes};
 ghost use Rattle.day_file.specs.Parts.{DayLoads};
-ghost use Rattle.day.specs.Running.{jobRun, storeAfter};
-ghost use Rattle.day.specs.Parts.{Runnable};
+ghost use Rattle.day_jobs.specs.Running.{jobRun, storeAfter};
+ghost use Rattle.day_jobs.specs.Parts.{Runnable};
 ghost use Rattle.day_turns.specs.Keeping.{storesWords, Kept};
 
 // How a job went: whether it was run, and how it ended then.
@@ -54,9 +54,9 @@ fn keep_job(
     ensures { λ r. ⌜ Finishes r (slots (now (kept .exit))) (jobRun (now (file .entry)) job (slots (now (store .entry)))) × (slots (now (store .exit)) ≡ storeAfter (now (file .entry)) job (slots (now (store .entry)))) ⌝ }
 {
     let records = h.records;
-    let finish = day::run_job(file, h, labels, job, store);
+    let finish = day_jobs::run_job(file, h, labels, job, store);
     copy_store(store, kept);
-    day::end_job(store, records.count);
+    day_jobs::end_job(store, records.count);
     finish
 }
 
@@ -89,12 +89,13 @@ pub fn run_day(file: &[u8], h: Header, labels: &[u64], stores: &mut [u64]) -> En
         },
     };
     let mut ends = [none; 16];
-    let mut left = h.steps;
+    let mut callers = admission::full_allowances(h.steps);
     let mut k = 0;
     while k < count {
         let job = day_file::job_at(file, b + 12 * k);
-        if job.steps <= left {
-            left -= job.steps;
+        let answer = admission::admit_caller(callers, job.caller, job.steps);
+        callers = answer.callers;
+        if answer.admitted {
             let first = STORE * k;
             let end = first + STORE;
             let finish = keep_job(file, h, labels, job, &mut store, &mut stores[first..end]);

@@ -2,9 +2,8 @@
 use mathlib.Core.Bool.{Bool, true, false}
 use mathlib.Core.List.{List, [], _∷_, _++_}
 use mathlib.Core.Logic.{_⊎_, inl, inr}
-use mathlib.Core.Path.{_≡_, sym, subst₂}
+use mathlib.Core.Path.{_≡_, refl, sym, subst₂}
 use Prim.Native.Nat.{ℕ, zero, suc, _+_, _≤_, _<_}
-use native.Mathlib.Decide.{decLt}
 use native.Mathlib.Omega.{arith}
 use lib.ListN.{length, length-append, drop}
 use Rattle.labels.specs.Order.{flows}
@@ -23,10 +22,11 @@ use Rattle.day_file.specs.Checks.{dayRefusal}
 use Rattle.day_file.proofs.Limits.{Fits}
 use Rattle.day_file.proofs.Tests.{AllJobs}
 use Rattle.day_file.proofs.Answers.{refusal-most, refusal-not-5, few-jobs, jobs-fit}
-use Rattle.day.specs.Running.{jobProgram, jobAccount, storeAfter, admitted, Turn, skipped, ran, dayTurns}
+use Rattle.admission.specs.Admission.{fits, dayAdmitted}
+use Rattle.day_jobs.specs.Running.{jobProgram, jobAccount, storeAfter, Turn, skipped, ran, dayTurns}
 use Rattle.day.specs.Views.{turnView, eachTurn, turnViews, dayView, dayReading}
 use Rattle.day.proofs.Views.{length-skipped}
-use Rattle.day.proofs.Turns.{turnsFrom, turn-skipped, turn-ran}
+use Rattle.day_jobs.proofs.Turns.{turnsFrom, turn-skipped, turn-ran}
 use Rattle.noninterference.specs.Alike.{SameReads}
 use Rattle.day_noninterference.specs.Alike.{DayAlike}
 use Rattle.day_noninterference.proofs.Demand3.{day-demand-3}
@@ -46,7 +46,7 @@ EachJob bs (j ∷ js) (false ∷ ads) σ = EachJob bs js ads σ
 
 -- the views of a day, whose jobs are each skipped or run
 pub record IsDayViewed (bs : List ℕ) (i : ℕ) (b : List ℕ) (q : Reading) : Type 0 where
-  pub jobs : EachJob bs (dayJobs bs) (admitted (dayHeader bs .steps) (dayJobs bs)) (startStore (inputSlots (dayInputs bs)))
+  pub jobs : EachJob bs (dayJobs bs) (dayAdmitted bs) (startStore (inputSlots (dayInputs bs)))
   pub shown : q ≡ record { answer = Viewed (length (dayView bs i)); buffer = dayView bs i ++ drop (length (dayView bs i)) b }
 
 day-numbers : (bs : List ℕ) → Numbers DayRefusal (dayRefusal bs)
@@ -65,9 +65,9 @@ module _ (bs : List ℕ) where
   each-job (j ∷ js) (true ∷ ads) σ fit = (charged (jobProgram bs j) (jobAccount bs j) σ (fit .0 .inputs-fit), each-job js ads (storeAfter bs j σ) (fit .1))
   each-job (j ∷ js) (false ∷ ads) σ fit = each-job js ads σ (fit .1)
 
-  all-jobs : dayRefusal bs ≡ 0 → EachJob bs (dayJobs bs) (admitted (dayHeader bs .steps) (dayJobs bs)) (startStore (inputSlots (dayInputs bs)))
+  all-jobs : dayRefusal bs ≡ 0 → EachJob bs (dayJobs bs) (dayAdmitted bs) (startStore (inputSlots (dayInputs bs)))
   all-jobs none =
-      each-job (dayJobs bs) (admitted (dayHeader bs .steps) (dayJobs bs)) (startStore (inputSlots (dayInputs bs))) (jobs-fit bs none)
+      each-job (dayJobs bs) (dayAdmitted bs) (startStore (inputSlots (dayInputs bs))) (jobs-fit bs none)
 
   module _ (i : ℕ) (b : List ℕ) where
     pub day-demand-1 : IsRefused DayRefusal b (dayReading bs i b) ⊎ IsDayViewed bs i b (dayReading bs i b)
@@ -109,17 +109,18 @@ module _ (Reads : Label → Bool) (bs : List ℕ) where
   first-least t ts = omega (arith, turn-least t, length-append (turnView Reads t) (turnViews Reads ts))
 
   -- and some jobs have one
-  views-least : (n at left : ℕ) (σ : Store) → 1 ≤ n → recordsAt ≤ length (turnViews Reads (turnsFrom bs (jobsFrom bs n at) left σ))
+  views-least : (n at : ℕ) (left : ℕ → ℕ) (σ : Store) → 1 ≤ n → recordsAt ≤ length (turnViews Reads (turnsFrom bs (jobsFrom bs n at) left σ))
   unfolding jobsFrom
   views-least zero at left σ h = absurd (omega arith)
-  views-least (suc n) at left σ h = test (decLt left (jobFrom bs at .steps))
+  views-least (suc n) at left σ h = test (fits (left (jobFrom bs at .caller)) (jobFrom bs at .steps)) refl
     where
-      test : Dec (left < jobFrom bs at .steps) → recordsAt ≤ length (turnViews Reads (turnsFrom bs (jobFrom bs at ∷ jobsFrom bs n (at + 12)) left σ))
-      test (yes lt) = rw (turn-skipped bs (jobFrom bs at) (jobsFrom bs n (at + 12)) left σ lt) (first-least _ _)
-      test (no ge) = rw (turn-ran bs (jobFrom bs at) (jobsFrom bs n (at + 12)) left σ (omega arith)) (first-least _ _)
+      test : (t : Bool) → fits (left (jobFrom bs at .caller)) (jobFrom bs at .steps) ≡ t
+          → recordsAt ≤ length (turnViews Reads (turnsFrom bs (jobFrom bs at ∷ jobsFrom bs n (at + 12)) left σ))
+      test false e = rw (turn-skipped bs (jobFrom bs at) (jobsFrom bs n (at + 12)) left σ e) (first-least _ _)
+      test true e = rw (turn-ran bs (jobFrom bs at) (jobsFrom bs n (at + 12)) left σ e) (first-least _ _)
 
 day-least : (bs : List ℕ) (i : ℕ) → dayRefusal bs ≡ 0 → recordsAt ≤ length (dayView bs i)
-unfolding dayView dayTurns
+unfolding dayView dayTurns dayAdmitted
 day-least bs i none = views-least (λ l. flows l (dayLabel bs i)) bs _ _ _ _ (few-jobs bs none .0)
 
 day-bounded : (bs : List ℕ) (i : ℕ) (b : List ℕ) → Bounded DayRefusal (dayReading bs i b .answer)

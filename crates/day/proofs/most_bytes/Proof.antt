@@ -9,7 +9,8 @@ use Rattle.day_file.specs.Sections.{jobsFrom}
 use Rattle.day_file.proofs.Answers.{few-jobs, in-place, job-fits}
 use Rattle.day_file.proofs.Answers as answers
 use Rattle.day.specs.Parts.{mostBytes}
-use Rattle.day.proofs.Turns.{jobsLeft, job, all-left, most-here, most-nothing}
+use Rattle.day_jobs.proofs.Turns.{jobsLeft, job, all-left}
+use Rattle.day.proofs.Turns.{most-here, most-nothing}
 use Rattle.day.proofs.most_bytes.Statement.{statement}
 use Rattle.day.proofs.most_bytes.Tie as tie
 

@@ -5,7 +5,7 @@ use borrow.Author.Tests.{le-leb}
 use lib.Dec.{leb}
 use Prim.Native.Nat.{ℕ}
 use Rattle.view.specs.Writing.{observes}
-use Rattle.day.proofs.Between.{day-most}
+use Rattle.day.proofs.Most.{day-most}
 use Rattle.day.proofs.views_fit.Statement.{statement}
 use Rattle.day.proofs.views_fit.Tie as tie
 

@@ -12,18 +12,19 @@ use Rattle.day_file.specs.declared.Job.{Job}
 use Rattle.day_file.specs.Sections.{dayHeader, jobFrom}
 use Rattle.day_file.specs.Parts.{DayLoads}
 use Rattle.day_file.proofs.Answers.{few-jobs, most-bytes}
-use Rattle.day.specs.Parts.{Runnable}
-use Rattle.day.proofs.Jobs.{ordered, records-short, job-runs}
+use Rattle.admission.specs.Allowances.{allowancesOf}
+use Rattle.day_jobs.specs.Parts.{Runnable}
+use Rattle.day_jobs.proofs.Jobs.{ordered, records-short, job-runs}
 use Rattle.day.proofs.Views.{jobAt, Served, none-served, one-skipped, one-ran, all-served, inputs-placed}
 use borrow.Author.Needs.{needs}
 use Rattle.day.proofs.write_views.Statement.{statement}
 use Rattle.day.proofs.write_views.Tie as tie
 
 abbrev Inv-loop : tie.InvT-loop
-Inv-loop file h labels reader out₀ a b count store₀ left₀ at₀ k₀ out store left at k = Served (observes reader) file out₀ out store left at k
+Inv-loop file h labels reader out₀ a b count store₀ callers₀ at₀ k₀ out store callers at k = Served (observes reader) file out₀ out store callers at k
 
 abbrev μ-loop : tie.MeasureT-loop
-μ-loop file h labels reader out₀ a b count store₀ left₀ at₀ k₀ out store left at k = count - k
+μ-loop file h labels reader out₀ a b count store₀ callers₀ at₀ k₀ out store callers at k = count - k
 
 abbrev Begun : Type 0
 Begun = tie.Start Inv-loop μ-loop
@@ -67,8 +68,9 @@ place-inputs-requires c κs =
 loop-holds : tie.Need-loop-holds Inv-loop μ-loop
 loop-holds c =
     let p : tie.After-place-inputs Inv-loop μ-loop = search in
+    let a : tie.After-full-allowances Inv-loop μ-loop = search in
     let b : Begun = search in
-    none-served _ (bs b) _ _ _ (ap (λ (g : Header). g .steps) (loads b .numbers)) (p .place-inputs .kept .1 .1 .0)
+    none-served _ (bs b) _ _ _ (a .full-allowances .ensures ∙ ap (λ (g : Header). allowancesOf (g .steps)) (loads b .numbers)) (p .place-inputs .kept .1 .1 .0)
     (inputs-placed (bs b) (h b) (ws b) (loads b) _ (p .place-inputs .ensures))
 
 -- job k of the day
@@ -114,14 +116,16 @@ serve-job-requires c κs =
 
 loop-again : tie.Need-loop-again Inv-loop μ-loop
 loop-again c =
+    let d : tie.After-admit-caller Inv-loop μ-loop = search in
     let a : tie.After-job-at Inv-loop μ-loop = search in
     let i = inside a in
     let v = head i .loop .inv in
     ⊎-elim
-    (λ w. rw (w .5, w .6, w .7, w .8) (one-skipped _ _ v (below-all i) (is-job a) (w .0 .taken) (w .2 .ensures .1) (w .2 .kept .1 .0) (w .2 .ensures .0)))
-    (λ w. rw (w .8, w .9, w .10, w .11)
-    (one-ran _ _ v (below-all i) (is-job a) (omega (arith, w .0 .left)) (w .4 .kept .1 .1 .1 .1 .1 .0 ∙ v .size) (w .4 .ensures .2)
-    (w .4 .ensures .0) (w .4 .ensures .1) (w .4 .ensures .3) (w .4 .kept .1 .1 .1 .1 .1 .1 .1 .0)))
+    (λ w. rw (w .7, w .8, w .9)
+    (one-ran _ _ v (below-all i) (is-job a) (runs a .caller) (d .admit-caller .ensures) (w .0 .taken) (w .3 .kept .1 .1 .1 .1 .1 .0 ∙ v .size) (w .3 .ensures .2)
+    (w .3 .ensures .0) (w .3 .ensures .1) (w .3 .ensures .3) (w .3 .kept .1 .1 .1 .1 .1 .1 .1 .0)))
+    (λ w. rw (w .5, w .6, w .7)
+    (one-skipped _ _ v (below-all i) (is-job a) (runs a .caller) (d .admit-caller .ensures) (w .0 .left) (w .2 .ensures .1) (w .2 .kept .1 .0) (w .2 .ensures .0)))
     (c .if1 .came)
 
 returns : tie.Need-returns Inv-loop μ-loop
@@ -141,15 +145,17 @@ write-views-spec =
     (λ c. omega (arith, within (search)))
     (search needs)
     place-inputs-requires
+    (search needs)
     loop-holds
     (λ c. omega (arith, starts-below (search)))
     (λ c. omega (arith, starts-below (search)))
     (λ c κs. omega (arith, starts-below (search)))
-    (λ c κs. omega (arith, at-below (search)))
-    (λ c. let s : tie.After-show-skipped Inv-loop μ-loop = search in omega (arith, s .show-skipped .ensures .0, at-below (search)))
+    (λ c κs. let a : tie.After-job-at Inv-loop μ-loop = search in omega (arith, runs a .caller, below (inside a), few (begun (inside a))))
     (λ c. let i : Inside = search in sym (head i .loop .inv .size))
     serve-job-requires
     (λ c. let s : tie.After-serve-job Inv-loop μ-loop = search in omega (arith, s .serve-job .ensures .0, at-below (search)))
+    (λ c κs. omega (arith, at-below (search)))
+    (λ c. let s : tie.After-show-skipped Inv-loop μ-loop = search in omega (arith, s .show-skipped .ensures .0, at-below (search)))
     (λ c. let i : Inside = search in omega (arith, below i, few (begun i)))
     (λ c. let i : Inside = search in omega (arith, below i))
     loop-again

@@ -16,9 +16,9 @@ use Rattle.day_file.specs.declared.Job.{Job}
 use Rattle.day_file.specs.Sections.{dayHeader, jobFrom}
 use Rattle.day_file.specs.Parts.{DayLoads}
 use Rattle.day_file.proofs.Answers.{few-jobs, most-bytes}
-use Rattle.day.specs.Running.{Turn}
+use Rattle.day_jobs.specs.Running.{Turn}
 use Rattle.day.specs.Views.{turnView}
-use Rattle.day.proofs.Jobs.{ordered, labels-are}
+use Rattle.day_jobs.proofs.Jobs.{ordered, labels-are}
 use Rattle.day_turns.specs.Keeping.{none, turnOf, storeAt}
 use Rattle.day_turns.proofs.Stores.{length-part, part-is}
 use Rattle.day_lines.proofs.Jobs.{Served, none-served, room-here, one-more, all-served, lines-are}

@@ -6,7 +6,7 @@ use Prim.Native.Nat.{ℕ}
 use Rattle.machine.specs.Steps.{Finishes}
 use Rattle.store.specs.Slots.{slots}
 use Rattle.day_file.specs.declared.Header.{Header}
-use Rattle.day.specs.Running.{jobRun}
+use Rattle.day_jobs.specs.Running.{jobRun}
 use Rattle.day.proofs.Views.{served-store}
 use borrow.Author.Needs.{needs}
 use Rattle.day_turns.proofs.keep_job.Statement.{statement}

@@ -12,19 +12,21 @@ use Rattle.day_file.specs.declared.Job.{Job}
 use Rattle.day_file.specs.Sections.{dayHeader, jobFrom}
 use Rattle.day_file.specs.Parts.{DayLoads}
 use Rattle.day_file.proofs.Answers.{few-jobs, most-bytes}
-use Rattle.day.specs.Parts.{Runnable}
-use Rattle.day.proofs.Jobs.{ordered, records-short, job-runs}
+use Rattle.admission.specs.Allowances.{allowancesOf}
+use Rattle.day_jobs.specs.Parts.{Runnable}
+use Rattle.day_jobs.proofs.Jobs.{ordered, records-short, job-runs}
 use Rattle.day.proofs.Views.{inputs-placed}
+use borrow.Author.Needs.{needs}
 use Rattle.day_turns.proofs.Stores.{length-part, length-put}
 use Rattle.day_turns.proofs.Keeping.{jobAt, Keeping, none-kept, one-skipped, one-ran, all-kept}
 use Rattle.day_turns.proofs.run_day.Statement.{statement}
 use Rattle.day_turns.proofs.run_day.Tie as tie
 
 abbrev Inv-loop : tie.InvT-loop
-Inv-loop file h labels stores₀ a b count store₀ ends₀ left₀ k₀ stores store ends left k = Keeping file ends stores store left k
+Inv-loop file h labels stores₀ a b count store₀ ends₀ callers₀ k₀ stores store ends callers k = Keeping file ends stores store callers k
 
 abbrev μ-loop : tie.MeasureT-loop
-μ-loop file h labels stores₀ a b count store₀ ends₀ left₀ k₀ stores store ends left k = count - k
+μ-loop file h labels stores₀ a b count store₀ ends₀ callers₀ k₀ stores store ends callers k = count - k
 
 abbrev Begun : Type 0
 Begun = tie.Start Inv-loop μ-loop
@@ -65,8 +67,9 @@ place-inputs-requires c κs =
 loop-holds : tie.Need-loop-holds Inv-loop μ-loop
 loop-holds c =
     let p : tie.After-place-inputs Inv-loop μ-loop = search in
+    let a : tie.After-full-allowances Inv-loop μ-loop = search in
     let b : Begun = search in
-    none-kept (bs b) _ _ _ (ap (λ (g : Header). g .steps) (loads b .numbers)) (b .pre .2) (p .place-inputs .kept .1 .1 .0)
+    none-kept (bs b) _ _ _ (a .full-allowances .ensures ∙ ap (λ (g : Header). allowancesOf (g .steps)) (loads b .numbers)) (b .pre .2) (p .place-inputs .kept .1 .1 .0)
     (inputs-placed (bs b) (h b) (ws b) (loads b) _ (p .place-inputs .ensures))
 
 -- job k of the day
@@ -116,16 +119,17 @@ keep-job-requires c κs =
 
 loop-again : tie.Need-loop-again Inv-loop μ-loop
 loop-again c =
+    let d : tie.After-admit-caller Inv-loop μ-loop = search in
     let a : tie.After-job-at Inv-loop μ-loop = search in
     let i = inside a in
     let v = head i .loop .inv in
     ⊎-elim
     (λ w.
-    let ys = w .4 .last .1 .1 .1 .1 .1 .0 in
-    let size : length ys ≡ words = w .4 .kept .1 .1 .1 .1 .1 .0 ∙ length-part (head i .loop .stores) (k i) (room i) in
-    rw (w .8, w .9, w .10, w .11)
-    (one-ran (bs (begun i)) v (below-all i) (is-job a) (omega (arith, w .0 .taken)) (small i) ys _ size (w .4 .ensures .0) _ (w .4 .ensures .1) (w .4 .kept .1 .1 .1 .1 .0 ∙ v .size) (length-put (head i .loop .stores) (k i) (room i) ys size ∙ v .room)))
-    (λ w. rw (w .1, w .2, w .3, w .4) (one-skipped (bs (begun i)) v (below-all i) (is-job a) (omega (arith, w .0 .left)) (small i)))
+    let ys = w .3 .last .1 .1 .1 .1 .1 .0 in
+    let size : length ys ≡ words = w .3 .kept .1 .1 .1 .1 .1 .0 ∙ length-part (head i .loop .stores) (k i) (room i) in
+    rw (w .7, w .8, w .9)
+    (one-ran (bs (begun i)) v (below-all i) (is-job a) (runs a .caller) (d .admit-caller .ensures) (w .0 .taken) (small i) ys _ size (w .3 .ensures .0) _ (w .3 .ensures .1) (w .3 .kept .1 .1 .1 .1 .0 ∙ v .size) (length-put (head i .loop .stores) (k i) (room i) ys size ∙ v .room)))
+    (λ w. rw (w .1, w .2, w .3) (one-skipped (bs (begun i)) v (below-all i) (is-job a) (runs a .caller) (d .admit-caller .ensures) (w .0 .left) (small i)))
     (c .if1 .came)
 
 returns : tie.Need-returns Inv-loop μ-loop
@@ -145,10 +149,12 @@ run-day-spec =
     (λ c. omega (arith, within (search)))
     (λ c. refl)
     place-inputs-requires
+    (search needs)
     loop-holds
     (λ c. omega (arith, starts-below (search)))
     (λ c. omega (arith, starts-below (search)))
     (λ c κs. omega (arith, starts-below (search)))
+    (λ c κs. let a : tie.After-job-at Inv-loop μ-loop = search in runs a .caller)
     (λ c. omega (arith, small (search)))
     (λ c. omega (arith, small (search)))
     (λ c. let i : Inside = search in sym (head i .loop .inv .size))
