@@ -23,22 +23,24 @@ declared js = map (λ (j : Job). j .steps) js
 -- ── a caller by itself ──
 
 module _ (c : ℕ) where
-  -- behind the first job all is as it should be
   module _ (left : ℕ → ℕ) (j : Job) (js : List Job) where
+    -- a job of the caller's own, before answers to the others of its own
+    own-first : eqb (j .caller) c ≡ true → {ys : List Bool} → ys ≡ alone (leftAfter left j c) (declared (own c js))
+        → fits (left (j .caller)) (j .steps) ∷ ys ≡ alone (left c) (declared (j ∷ own c js))
+    unfolding alone
+    own-first e behind =
+        ap₂ _∷_ (ap (λ (k : ℕ). fits (left k) (j .steps)) (eqb-true (j .caller) c e)) (behind ∙ ap (λ (l : ℕ). alone l (declared (own c js))) (own-rest left j c e))
+
     one-more : answers c js (admitted (leftAfter left j) js) ≡ alone (leftAfter left j c) (declared (own c js))
         → (b : Bool) → eqb (j .caller) c ≡ b → answers c (j ∷ js) (admitted left (j ∷ js)) ≡ alone (left c) (declared (own c (j ∷ js)))
-    unfolding answers own admitted alone
-    one-more behind true e =
-        rw e
-        (ap₂ _∷_ (ap (λ (k : ℕ). fits (left k) (j .steps)) (eqb-true (j .caller) c e)) (behind ∙ ap (λ (l : ℕ). alone l (declared (own c js))) (own-rest left j c e)))
+    unfolding answers own admitted
+    one-more behind true e = rw e (own-first e behind)
     one-more behind false e = rw e (behind ∙ ap (λ (l : ℕ). alone l (declared (own c js))) (others-rest left j c e))
 
     one-own : admitted (leftAfter left j) (own c js) ≡ alone (leftAfter left j c) (declared (own c js)) → admitted left (own c js) ≡ alone (left c) (declared (own c js))
         → (b : Bool) → eqb (j .caller) c ≡ b → admitted left (own c (j ∷ js)) ≡ alone (left c) (declared (own c (j ∷ js)))
-    unfolding own admitted alone
-    one-own behind here true e =
-        rw e
-        (ap₂ _∷_ (ap (λ (k : ℕ). fits (left k) (j .steps)) (eqb-true (j .caller) c e)) (behind ∙ ap (λ (l : ℕ). alone l (declared (own c js))) (own-rest left j c e)))
+    unfolding own admitted
+    one-own behind here true e = rw e (own-first e behind)
     one-own behind here false e = rw e here
 
   -- the answers to its jobs are those that it gets by itself
