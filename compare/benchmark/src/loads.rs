@@ -222,9 +222,9 @@ fn refused_late() -> Script {
         code.op(CUR);
     }
     code.op(POP);
-    let twenty: Vec<u8> = (0u8..64).filter(|mask| mask.count_ones() == 3).collect();
+    let seventy: Vec<u8> = (0u8..=255).filter(|mask| mask.count_ones() == 4).collect();
     let mut script = script(&code);
-    script.labels.resize(32, Clauses::new(&twenty, &twenty));
+    script.labels.resize(32, Clauses::new(&seventy, &seventy));
     script.records.resize(MAX_RECORDS, Input::sealed(2, 7));
     script
 }
@@ -305,9 +305,9 @@ mod tests {
             .map(|bytes| u16::from_le_bytes([bytes[0], bytes[1]]))
             .collect();
         // A fault after one step, in the END; no place was taken but those of the records.
-        assert_eq!(numbers, [2, 1, 64, 64, 62, 62 + 36 * 64]);
+        assert_eq!(numbers, [2, 1, 64, 64, 206, 206 + 132 * 64]);
         // Its code is 20, too few operands, and its number is 0.
-        assert_eq!(view[view::RESULT..view::LABEL], [[5u8, 0, 20].as_slice(), &[0; 15]].concat());
+        assert_eq!(view[view::RESULT..view::LABEL], [[5u8, 0, 20].as_slice(), &[0; 63]].concat());
         let places = view[view::RECORDS..].chunks(shown::LENGTH).take(64).map(|record| record[shown::PLACE]);
         assert!(places.eq(0..64u8));
     }

@@ -70,7 +70,13 @@ fn endless(code: &mut Code) {
     code.jump(again);
 }
 
-/// All masks of three bits: the longest list that can be well formed.
+/// All masks of four bits: the longest list that can be well formed.
+pub fn seventy_clauses() -> Vec<u8> {
+    (0u8..=255).filter(|mask| mask.count_ones() == 4).collect()
+}
+
+/// All masks of three bits among the first six: the longest list without the last two
+/// principals.
 pub fn twenty_clauses() -> Vec<u8> {
     (0u8..64).filter(|mask| mask.count_ones() == 3).collect()
 }
@@ -79,16 +85,28 @@ fn clauses() -> Vec<Case> {
     let entry = |name: &str, expected, masks: Clauses| {
         tuned(name, expected, plain, |script| script.labels[label::DEALER as usize] = masks)
     };
-    let mut twenty_one = twenty_clauses();
-    twenty_one.push(63);
+    let (twenty, seventy) = (twenty_clauses(), seventy_clauses());
+    let with = |masks: &[u8], last: u8| [masks, &[last]].concat();
     vec![
-        entry("20 clauses", Expected::number(5), Clauses::new(&twenty_clauses(), &twenty_clauses())),
-        entry("21 clauses", Expected::Refused(4), Clauses::new(&twenty_one, &[])),
+        entry("20 clauses", Expected::number(5), Clauses::new(&twenty, &twenty)),
+        entry("21 clauses", Expected::number(5), Clauses::new(&with(&twenty, 64), &with(&twenty, 128))),
+        entry(
+            "21 clauses, one of them a superset",
+            Expected::Refused(4),
+            Clauses::new(&with(&twenty, 63), &[]),
+        ),
+        entry("70 clauses", Expected::number(5), Clauses::new(&seventy, &seventy)),
+        entry("71 clauses", Expected::Refused(4), Clauses::new(&with(&seventy, 255), &[])),
+        entry("71 clauses of integrity", Expected::Refused(4), Clauses::new(&[], &with(&seventy, 255))),
         entry("the empty clause alone", Expected::number(5), Clauses::new(&[0], &[0])),
         entry("the empty clause and another", Expected::Refused(4), Clauses::new(&[], &[0, 1])),
         entry("a clause twice", Expected::Refused(4), Clauses::new(&[], &[4, 4])),
         entry("a subset two clauses on", Expected::Refused(4), Clauses::new(&[1, 6, 9], &[])),
-        entry("all single principals", Expected::number(5), Clauses::new(&[1, 2, 4, 8, 16, 32], &[])),
+        entry(
+            "all single principals",
+            Expected::number(5),
+            Clauses::new(&[1, 2, 4, 8, 16, 32, 64, 128], &[255]),
+        ),
     ]
 }
 
@@ -99,6 +117,9 @@ fn full_store() -> Vec<Case> {
             code.push(1).lab(label::PUBLIC).ops(&[opcode, POP]).jump(again);
         };
         tuned(name, Expected::fault(26), write, |script| {
+            // Two long views are enough.
+            script.labels.truncate(2);
+            script.records.clear();
             script.places = places;
             script.steps = u16::MAX;
         })

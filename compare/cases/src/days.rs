@@ -7,6 +7,7 @@ pub mod code;
 pub mod halves;
 pub mod handles;
 pub mod jobs;
+pub mod parties;
 pub mod refusals;
 pub mod several;
 pub mod store;
@@ -51,6 +52,7 @@ pub fn all() -> Vec<DayCase> {
         halves::cases(),
         clearances::cases(),
         views::cases(),
+        parties::cases(),
     ]
     .concat()
 }

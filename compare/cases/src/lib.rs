@@ -11,6 +11,7 @@ pub mod halves;
 pub mod kept;
 pub mod order;
 pub mod paper;
+pub mod parties;
 pub mod quotes;
 pub mod refusals;
 pub mod values;
@@ -66,6 +67,7 @@ pub fn all() -> Vec<Case> {
         bodies::cases(),
         blocks::cases(),
         bounds::cases(),
+        parties::cases(),
     ]
     .concat()
 }

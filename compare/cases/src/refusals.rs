@@ -109,8 +109,10 @@ fn labels() -> Vec<Case> {
         case("a count of 255 clauses", long_count),
         case("an entry cut by the records", cut_count),
         entries("an integrity clause that descends", |labels| labels[5] = Clauses::new(&[], &[8, 4])),
-        entries("a mask of 128", |labels| labels[0] = Clauses::new(&[128], &[])),
-        entries("an integrity mask of 64", |labels| labels[1] = Clauses::new(&[], &[64])),
+        entries("clauses 80, 40", |labels| labels[0] = Clauses::new(&[128, 64], &[])),
+        entries("integrity clauses 40, C0", |labels| labels[1] = Clauses::new(&[], &[64, 192])),
+        entries("integrity clauses 00, 80", |labels| labels[1] = Clauses::new(&[], &[0, 128])),
+        entries("clauses FF, FF", |labels| labels[0] = Clauses::new(&[255, 255], &[])),
     ]
 }
 
@@ -174,13 +176,13 @@ fn several() -> Vec<Case> {
     vec![
         both("2 before 4", 2, |script| {
             script.steps = 0;
-            script.labels[0] = Clauses::new(&[64], &[]);
+            script.labels[0] = Clauses::new(&[64, 64], &[]);
         }),
         patched("2 before 3", 2, &[(header::STEPS, 0), (header::LABELS_AT, 17)]),
         patched("3 before 4", 3, &[(header::LABEL_COUNT, 7), (header::LABELS_AT, 17)]),
         both("4 before 5", 4, |script| {
             script.labels[0] = Clauses::new(&[0], &[]);
-            script.labels[2] = Clauses::new(&[64], &[]);
+            script.labels[2] = Clauses::new(&[64, 64], &[]);
         }),
         both("5 before 6", 5, |script| {
             script.labels[0] = Clauses::new(&[0], &[]);

@@ -1,9 +1,10 @@
 //! What each instruction gives when nothing goes wrong.
 
 use crate::{case, label, record, Case, Expected};
-use reference::label::{Label, TRUE};
+use reference::label::Label;
 use reference::opcode::*;
 use reference::script::Code;
+use reference::table::Table;
 use reference::value::{Ending, Value};
 
 pub fn cases() -> Vec<Case> {
@@ -64,16 +65,17 @@ fn jumps() -> Vec<Case> {
     ]
 }
 
-/// The label with this table of secrecy that no one vouches for.
+/// The label that no one vouches for whose table of secrecy has this word four times, as it
+/// has where the last two principals have no say.
 fn table(secrecy: u64) -> Value {
-    Value::Label(Label { secrecy, integrity: TRUE })
+    Value::Label(Label { secrecy: Table([secrecy; 4]), integrity: Table::TRUE })
 }
 
 fn labels() -> Vec<Case> {
     let flows = |name: &str, from: u8, to: u8, result: u32| {
         gives(name, Value::Number(result), |code| _ = code.lab(from).lab(to).op(FLOWS))
     };
-    let vouched = Value::Label(Label { secrecy: TRUE, integrity: 0xF0F0_F0F0_F0F0_F0F0 });
+    let vouched = Value::Label(Label { secrecy: Table::TRUE, integrity: Table([0xF0F0_F0F0_F0F0_F0F0; 4]) });
     let player = table(0xAAAA_AAAA_AAAA_AAAA);
     vec![
         flows("public flows to secret", label::PUBLIC, label::PLAYER, 1),
@@ -91,7 +93,7 @@ fn labels() -> Vec<Case> {
         }),
         gives("JOIN of integrity", player, |code| _ = code.lab(label::PLAYER).lab(label::VOUCHED).op(JOIN)),
         gives("MEET of integrity", vouched, |code| _ = code.lab(label::PLAYER).lab(label::VOUCHED).op(MEET)),
-        gives("CUR", table(TRUE), |code| _ = code.op(CUR)),
+        gives("CUR", table(u64::MAX), |code| _ = code.op(CUR)),
         gives("CLR", table(0x8080_8080_8080_8080), |code| _ = code.op(CLR)),
         gives("CUR after RAISE", player, |code| _ = code.lab(label::PLAYER).ops(&[RAISE, CUR])),
         gives("CLR after LOWER", player, |code| _ = code.lab(label::PLAYER).ops(&[LOWER, CLR])),
@@ -101,7 +103,7 @@ fn labels() -> Vec<Case> {
         gives("RAISE to the clearance", table(0x8080_8080_8080_8080), |code| {
             _ = code.ops(&[CLR, RAISE, CUR])
         }),
-        gives("LOWER to the label", table(TRUE), |code| _ = code.ops(&[CUR, LOWER, CLR])),
+        gives("LOWER to the label", table(u64::MAX), |code| _ = code.ops(&[CUR, LOWER, CLR])),
         gives("LABOF", player, |code| _ = code.input(record::REFERENCE_PLAYER).op(LABOF)),
     ]
 }
@@ -126,7 +128,7 @@ fn records() -> Vec<Case> {
         gives("WRITE upwards does not raise", number(1), |code| {
             code.push(4).input(record::REFERENCE_PLAYER).ops(&[WRITE, CUR]).lab(label::PUBLIC).op(FLOWS);
         }),
-        gives("a label in a record", table(TRUE), |code| _ = code.ops(&[CUR, CUR, NEW, READ])),
+        gives("a label in a record", table(u64::MAX), |code| _ = code.ops(&[CUR, CUR, NEW, READ])),
         gives("a handle in a record", Value::Reference(3), |code| {
             code.input(record::REFERENCE_PUBLIC).ops(&[CUR, SEAL, OPEN]);
         }),

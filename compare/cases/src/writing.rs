@@ -9,6 +9,7 @@ use reference::day_script::{DayScript, JobEntry};
 use reference::label::Label;
 use reference::opcode::{END, SEAL, THROW};
 use reference::script::{Clauses, Code, Input, Script};
+use reference::table::Table;
 use reference::value::{Ending, Fault, Value};
 
 pub fn cases() -> Vec<Case> {
@@ -17,12 +18,27 @@ pub fn cases() -> Vec<Case> {
 
 /// Both formulas want the principals 0, 1 and 2, one of whom may send another in his stead:
 /// by secrecy 2 may send 3, 1 may send 4 and 0 may send 5; by integrity 1 may send 3, 0 may
-/// send 4 and 2 may send 5. Byte j of a table is for the sets of masks 8j to 8j + 7, so that
-/// j says who of 3, 4 and 5 is there, and no two bytes are the same.
-pub const LABEL: Label = Label { secrecy: 0xE8E0_C8C0_A8A0_8880, integrity: 0xE8C8_A888_E0C0_A080 };
+/// send 4 and 2 may send 5. Byte j of a word is for the sets whose masks are 8j to 8j + 7 in
+/// that word, so that j says who of 3, 4 and 5 is there, and no two bytes of a word are the
+/// same. A principal fewer may do where 6 or 7 is there, which says what word it is, so that
+/// no two words are the same either.
+pub const LABEL: Label = Label {
+    secrecy: Table([
+        0xE8E0_C8C0_A8A0_8880,
+        0xF8F0_C8C0_A8A0_8880,
+        0xECE0_CCC0_A8A0_8880,
+        0xFCF0_CCC0_A8A0_8880,
+    ]),
+    integrity: Table([
+        0xE8C8_A888_E0C0_A080,
+        0xEAC8_AA88_E0C0_A080,
+        0xF8C8_A888_F0C0_A080,
+        0xFAC8_AA88_F0C0_A080,
+    ]),
+};
 
 fn clauses() -> Clauses {
-    Clauses::new(&[3, 5, 6, 12, 18, 33], &[3, 5, 6, 10, 17, 36])
+    Clauses::new(&[6, 12, 18, 33, 67, 133], &[5, 10, 17, 36, 70, 131])
 }
 
 const STEPS: u16 = 0xC5A6;

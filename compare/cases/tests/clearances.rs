@@ -4,12 +4,14 @@
 use cases::days;
 use reference::print;
 
-const TRUE: &str = "ffffffffffffffff";
-const PLAYER: &str = "aaaaaaaaaaaaaaaa";
-const DEALER: &str = "cccccccccccccccc";
-const CLEARANCE: &str = "8080808080808080";
-const ZERO: &str = "0000000000000000";
-const SEVEN: &str = "0700000000000000";
+const TRUE: &str = "ffffffffffffffffffffffffffffffffffffffffffffffffffffffffffffffff";
+const PLAYER: &str = "aaaaaaaaaaaaaaaaaaaaaaaaaaaaaaaaaaaaaaaaaaaaaaaaaaaaaaaaaaaaaaaa";
+const DEALER: &str = "cccccccccccccccccccccccccccccccccccccccccccccccccccccccccccccccc";
+const CLEARANCE: &str = "8080808080808080808080808080808080808080808080808080808080808080";
+const ZERO: &str = "0000000000000000000000000000000000000000000000000000000000000000";
+/// The bytes of a field above a number of one byte.
+const UPPER: &str = "00000000000000000000000000000000000000000000000000000000000000";
+const SEVEN: &str = "0700000000000000000000000000000000000000000000000000000000000000";
 
 /// The label that flows to no other of its file, and so is shown every run.
 const ABOVE: usize = cases::label::ABOVE as usize;
@@ -68,14 +70,14 @@ fn runs_end_with_these_labels_and_clearances() {
 #[test]
 fn a_handler_opens_what_the_lowered_clearance_forbade() {
     let lines = lines("OPEN, shut out, is done by the handler");
-    let public = format!("03 01 {TRUE} {TRUE} 0100 0600000000000000 {ZERO}");
-    let sealed = format!("05 00 {TRUE} {TRUE} 0100 0100000000000000 {ZERO}");
+    let public = format!("03 01 {TRUE} {TRUE} 0100 06{UPPER} {ZERO}");
+    let sealed = format!("05 00 {TRUE} {TRUE} 0100 01{UPPER} {ZERO}");
     let zeros = [ZERO; 6].join(" ");
-    assert_eq!(lines[0], format!("0000 0000 0000 0200 3e00 8600 0000 {zeros} {public} {sealed}"));
+    assert_eq!(lines[0], format!("0000 0000 0000 0200 ce00 d601 0000 {zeros} {public} {sealed}"));
     let own = format!("00 00 {PLAYER} {TRUE} 0100 {SEVEN} {ZERO}");
-    let reference = format!("02 01 {PLAYER} {TRUE} 0100 0500000000000000 {ZERO}");
+    let reference = format!("02 01 {PLAYER} {TRUE} 0100 05{UPPER} {ZERO}");
     let run = format!("0100 {SEVEN} {ZERO} {PLAYER} {TRUE} {CLEARANCE} {TRUE}");
-    let front = format!("0100 0a00 0700 0400 3e00 ce00 {run}");
+    let front = format!("0100 0a00 0700 0400 ce00 de02 {run}");
     assert_eq!(lines[2], format!("{front} {own} {reference} {public} {sealed}"));
 }
 
@@ -83,8 +85,8 @@ fn a_handler_opens_what_the_lowered_clearance_forbade() {
 #[test]
 fn an_uncaught_fault_is_shown_with_the_clearance_of_the_throw() {
     let line = &lines("uncaught under a lowered clearance")[0];
-    let fault = "0500 1e00000000000000 0800000000000000";
-    let front = format!("0200 0400 0700 0200 3e00 8600 {fault} {TRUE} {TRUE} {PLAYER} {TRUE} 03 01");
+    let fault = format!("0500 1e{UPPER} 08{UPPER}");
+    let front = format!("0200 0400 0700 0200 ce00 d601 {fault} {TRUE} {TRUE} {PLAYER} {TRUE} 03 01");
     assert!(line.starts_with(&front), "{line}");
 }
 

@@ -94,10 +94,17 @@ fn a_plain_file_is_no_day_and_a_day_no_plain_file() {
     }
 }
 
-const TRUE: &str = "ffffffffffffffff";
-const PLAYER: &str = "aaaaaaaaaaaaaaaa";
-const CLEARANCE: &str = "8080808080808080";
-const ZERO: &str = "0000000000000000";
+const TRUE: &str = "ffffffffffffffffffffffffffffffffffffffffffffffffffffffffffffffff";
+const PLAYER: &str = "aaaaaaaaaaaaaaaaaaaaaaaaaaaaaaaaaaaaaaaaaaaaaaaaaaaaaaaaaaaaaaaa";
+const CLEARANCE: &str = "8080808080808080808080808080808080808080808080808080808080808080";
+const ZERO: &str = "0000000000000000000000000000000000000000000000000000000000000000";
+/// The bytes of a field above a number of one byte.
+const UPPER: &str = "00000000000000000000000000000000000000000000000000000000000000";
+const BENCH: &str = "f0f0f0f0f0f0f0f0f0f0f0f0f0f0f0f0f0f0f0f0f0f0f0f0f0f0f0f0f0f0f0f0";
+const BENCH_AND_ARCHIVE: &str = "00f000f000f000f000f000f000f000f000f000f000f000f000f000f000f000f0";
+/// The secrecy of player, dealer and archive, and an integrity by bench, archive or record company.
+const ALL_OF_THREE: &str = "0088008800880088008800880088008800880088008800880088008800880088";
+const ANY_OF_THREE: &str = "f0fffffff0fffffff0fffffff0fffffff0fffffff0fffffff0fffffff0ffffff";
 
 fn lines(name: &str) -> Vec<String> {
     let case = days::all().into_iter().find(|case| case.name == name).expect("a case of this name");
@@ -106,7 +113,7 @@ fn lines(name: &str) -> Vec<String> {
 
 #[test]
 fn a_skipped_job_is_shown_alike_to_all() {
-    let skipped = format!("0400 0000 0000 0000 3e00 3e00 0000 {ZERO} {ZERO} {ZERO} {ZERO} {ZERO} {ZERO}");
+    let skipped = format!("0400 0000 0000 0000 ce00 ce00 0000 {ZERO} {ZERO} {ZERO} {ZERO} {ZERO} {ZERO}");
     let lines = lines("views of different lengths");
     assert_eq!(lines.len(), 6 * 4);
     for (at, line) in lines.iter().enumerate() {
@@ -116,21 +123,21 @@ fn a_skipped_job_is_shown_alike_to_all() {
 
 /// The front of a view whose result is the number 5.
 fn five(steps: &str, next: &str, shown: &str, length: &str) -> String {
-    let result = format!("0100 0500000000000000 {ZERO}");
-    format!("0100 {steps} {next} {shown} 3e00 {length} {result} {TRUE} {TRUE} {CLEARANCE} {TRUE}")
+    let result = format!("0100 05{UPPER} {ZERO}");
+    format!("0100 {steps} {next} {shown} ce00 {length} {result} {TRUE} {TRUE} {CLEARANCE} {TRUE}")
 }
 
 /// Public is shown two of the input records, and what job 1 left in one of them.
 #[test]
 fn a_handle_is_33_in_the_next_view() {
     let lines = lines("a sealed handle to place C");
-    let sealed = format!("05 00 {TRUE} {TRUE} 0100 0100000000000000 {ZERO}");
+    let sealed = format!("05 00 {TRUE} {TRUE} 0100 01{UPPER} {ZERO}");
     let reference = format!("03 01 {TRUE} {TRUE}");
-    let new = format!("07 00 {TRUE} {TRUE} 0100 0100000000000000 {ZERO}");
-    let front = five("0700", "0800", "0300", "aa00");
-    assert_eq!(lines[0], format!("{front} {reference} 0300 0700000000000000 {ZERO} {sealed} {new}"));
-    let fault = format!("0500 2100000000000000 {ZERO}");
-    let front = format!("0200 0200 0700 0200 3e00 8600 {fault} {TRUE} {TRUE} {CLEARANCE} {TRUE}");
+    let new = format!("07 00 {TRUE} {TRUE} 0100 01{UPPER} {ZERO}");
+    let front = five("0700", "0800", "0300", "5a02");
+    assert_eq!(lines[0], format!("{front} {reference} 0300 07{UPPER} {ZERO} {sealed} {new}"));
+    let fault = format!("0500 21{UPPER} {ZERO}");
+    let front = format!("0200 0200 0700 0200 ce00 d601 {fault} {TRUE} {TRUE} {CLEARANCE} {TRUE}");
     assert_eq!(lines[1], format!("{front} {reference} {fault} {sealed}"));
 }
 
@@ -139,11 +146,10 @@ fn a_handle_is_33_in_the_next_view() {
 #[test]
 fn a_hidden_33_hides_the_run() {
     let lines = lines("33 in a record above the clearance of most");
-    assert!(lines[1].starts_with(&format!("0000 0000 0000 0200 3e00 8600 0000 {ZERO}")));
+    assert!(lines[1].starts_with(&format!("0000 0000 0000 0200 ce00 d601 0000 {ZERO}")));
     // The reader ABOVE is shown everything, the first job's one new record too.
     assert!(lines[8].starts_with("0100 0700 0800 0800"));
-    let front =
-        format!("0200 0200 0700 0700 3e00 3a01 0500 2100000000000000 {ZERO} {ZERO} {TRUE} {ZERO} {TRUE}");
+    let front = format!("0200 0200 0700 0700 ce00 6a04 0500 21{UPPER} {ZERO} {ZERO} {TRUE} {ZERO} {TRUE}");
     assert!(lines[9].starts_with(&front), "{}", lines[9]);
 }
 
@@ -152,13 +158,13 @@ fn a_hidden_33_hides_the_run() {
 /// last one, which reads with that label.
 #[test]
 fn a_25_is_shown_with_both_halves() {
-    let records = ["00 00", "01 01"].map(|head| format!("{head} {TRUE} 00f000f000f000f0 0100"));
-    let records = format!("{} 0700000000000000 {ZERO} {} 0800000000000000 {ZERO}", records[0], records[1]);
-    let fault = "0500 1900000000000000 0300000000000000";
-    let labels = format!("{PLAYER} f0f0f0f0f0f0f0f0 0088008800880088 f0fffffff0ffffff");
-    let shown = format!("0200 0200 0200 0200 3e00 8600 {fault} {labels} {records}");
+    let records = ["00 00", "01 01"].map(|head| format!("{head} {TRUE} {BENCH_AND_ARCHIVE} 0100"));
+    let records = format!("{} 07{UPPER} {ZERO} {} 08{UPPER} {ZERO}", records[0], records[1]);
+    let fault = format!("0500 19{UPPER} 03{UPPER}");
+    let labels = format!("{PLAYER} {BENCH} {ALL_OF_THREE} {ANY_OF_THREE}");
+    let shown = format!("0200 0200 0200 0200 ce00 d601 {fault} {labels} {records}");
     let zeros = [ZERO; 6].join(" ");
-    let hidden = format!("0000 0000 0000 0200 3e00 8600 0000 {zeros} {records}");
+    let hidden = format!("0000 0000 0000 0200 ce00 d601 0000 {zeros} {records}");
     assert_eq!(lines("25 of both halves, shown"), [shown.clone(), shown, hidden]);
 }
 
@@ -173,7 +179,7 @@ fn steps_used_are_the_job_s_own() {
 /// READ of the player's 33, caught: the player is shown the label that it raised.
 #[test]
 fn a_read_that_threw_has_raised() {
-    let front = format!("0100 0900 0700 0400 3e00 ce00 0100 {ZERO} {ZERO} {PLAYER} {TRUE}");
+    let front = format!("0100 0900 0700 0400 ce00 de02 0100 {ZERO} {ZERO} {PLAYER} {TRUE}");
     let line = &lines("READ raises, then throws 33")[2 * 2 + 1];
     assert!(line.starts_with(&front), "{line}");
 }
@@ -187,7 +193,7 @@ fn check_9_is_on_the_sum() {
             let mut whole = vec![0xEE; MAX_DAY];
             let length = read_day(&file, reader, &mut whole).expect("the longest buffer");
             assert!(whole[length..].iter().all(|&byte| byte == 0xEE));
-            let shortest = [0, 1, 61, 62, length - 62, length / 2, length % 65_536, length - 1];
+            let shortest = [0, 1, 205, 206, length - 206, length / 2, length % 65_536, length - 1];
             for size in shortest.into_iter().filter(|&size| size < length) {
                 let mut buffer = vec![0xEE; size];
                 assert_eq!(read_day(&file, reader, &mut buffer), Err(9), "{size} of {length}");
@@ -206,7 +212,7 @@ fn check_9_is_on_the_sum() {
 #[test]
 fn the_sum_may_pass_65_535() {
     let mut buffer = vec![0; MAX_DAY];
-    assert_eq!(read_day(&days::views::long().bytes(), 0, &mut buffer), Ok(8 * 9278));
+    assert_eq!(read_day(&days::views::long().bytes(), 0, &mut buffer), Ok(2 * 33_998));
 }
 
 /// Each view says where the next one starts.

@@ -15,7 +15,7 @@ use reference::batch;
 const LONGEST_FILE: usize = 450;
 const LONGEST_LINES: usize = 6_000;
 
-const VALID_FILES: usize = 90;
+const VALID_FILES: usize = 80;
 const PAIRS: usize = 50;
 const INVALID_FILES: usize = 8;
 const EXHAUSTED_FILES: usize = 2;

@@ -23,7 +23,7 @@ fn sizes() {
     assert!(files.iter().zip(&entries).all(|(file, entry)| *file == entry.file));
     assert_eq!(files.len(), entries.len());
     let lines = days::expected(&entries);
-    assert!(lines.len() < 3_000_000, "{} bytes", lines.len());
+    assert!(lines.len() < 5_000_000, "{} bytes", lines.len());
 }
 
 #[test]
@@ -70,6 +70,7 @@ const UNPRINTED: &[DayMutant] = &[
     DayMutant::FirstViewChecked,
     DayMutant::LongestViewChecked,
     DayMutant::SumWraps,
+    DayMutant::OldWidthsChecked,
     DayMutant::RoomForOneMore,
     DayMutant::ByteBeforeCheck,
     DayMutant::ViewsBeforeCheck,
@@ -90,15 +91,11 @@ fn every_other_mutant_prints_something_else() {
     assert_eq!(untold, UNPRINTED);
 }
 
-/// The one wrong writer that takes a job of 32,768 steps or more to be told, which the
-/// corpus of plain files has.
-const LONG_RUN: &str = "Short1SevenBits";
-
 #[test]
-fn every_other_wrong_writer_prints_something_else() {
+fn every_wrong_writer_prints_something_else() {
     let entries = days::entries();
     let told = |wrong: &WrongWriter| entries.iter().any(|entry| differs_on_day(wrong, &entry.file));
     let untold: Vec<String> =
         wrong_writers::all().into_iter().filter(|wrong| !told(wrong)).map(|wrong| wrong.name).collect();
-    assert_eq!(untold, [LONG_RUN]);
+    assert_eq!(untold, [""; 0]);
 }

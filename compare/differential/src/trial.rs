@@ -137,7 +137,7 @@ mod tests {
 
     fn offence_of(kind: Kind, read: Read) -> Option<&'static str> {
         let wrong = Implementation { name: "wrong", read, read_day: read, quote: |_| Err(1) };
-        Trial::new(kind, wrong, &[], 0, 200).offence()
+        Trial::new(kind, wrong, &[], 0, 600).offence()
     }
 
     fn offence(read: Read) -> Option<&'static str> {
@@ -152,15 +152,15 @@ mod tests {
     }
 
     fn two_views(buffer: &mut [u8]) -> Result<usize, u8> {
-        Ok(view_of(62, buffer)? + view_of(98, &mut buffer[62..])?)
+        Ok(view_of(206, buffer)? + view_of(338, &mut buffer[206..])?)
     }
 
     #[test]
     fn what_is_right_is_no_offence() {
-        assert_eq!(offence(|_, _, buffer| view_of(62, buffer)), None);
-        assert_eq!(offence(|_, _, buffer| view_of(98, buffer)), None);
+        assert_eq!(offence(|_, _, buffer| view_of(206, buffer)), None);
+        assert_eq!(offence(|_, _, buffer| view_of(338, buffer)), None);
         assert_eq!(offence(|_, _, _| Err(9)), None);
-        assert_eq!(offence_of(Kind::Day, |_, _, buffer| view_of(98, buffer)), None);
+        assert_eq!(offence_of(Kind::Day, |_, _, buffer| view_of(338, buffer)), None);
         assert_eq!(offence_of(Kind::Day, |_, _, buffer| two_views(buffer)), None);
         assert_eq!(offence_of(Kind::Day, |_, _, _| Err(10)), None);
     }
@@ -169,7 +169,7 @@ mod tests {
     fn answers_that_cannot_be() {
         assert!(offence(|_, _, _| Err(0)).is_some());
         assert!(offence(|_, _, _| Err(10)).is_some());
-        assert!(offence(|_, _, _| Ok(201)).is_some());
+        assert!(offence(|_, _, _| Ok(601)).is_some());
         assert!(offence_of(Kind::Day, |_, _, _| Err(5)).is_some());
         assert!(offence_of(Kind::Day, |_, _, _| Err(11)).is_some());
         assert!(offence_of(Kind::Day, |_, _, _| Err(0)).is_some());
@@ -179,8 +179,8 @@ mod tests {
     fn bytes_touched_behind_the_view() {
         for kind in [Kind::Plain, Kind::Day] {
             assert!(offence_of(kind, |_, _, buffer| {
-                buffer[99] ^= 1;
-                view_of(98, buffer)
+                buffer[339] ^= 1;
+                view_of(338, buffer)
             })
             .is_some());
             assert!(offence_of(kind, |_, _, buffer| {
@@ -194,8 +194,10 @@ mod tests {
     #[test]
     fn a_length_that_is_not_the_view_s() {
         for kind in [Kind::Plain, Kind::Day] {
-            assert!(offence_of(kind, |_, _, buffer| view_of(98, buffer).map(|length| length - 36)).is_some());
-            assert!(offence_of(kind, |_, _, buffer| view_of(62, buffer).map(|_| 98)).is_some());
+            assert!(
+                offence_of(kind, |_, _, buffer| view_of(338, buffer).map(|length| length - 132)).is_some()
+            );
+            assert!(offence_of(kind, |_, _, buffer| view_of(206, buffer).map(|_| 338)).is_some());
         }
         assert!(offence(|_, _, buffer| two_views(buffer)).is_some());
         assert!(offence_of(Kind::Day, |_, _, buffer| two_views(buffer).map(|length| length - 1)).is_some());

@@ -3,6 +3,8 @@
 
 use crate::clearances::{self, Back, Watch};
 use crate::halves::{self, Half};
+use crate::words::{self, Word};
+use reference::file::File;
 use reference::label::Label;
 use reference::limits::{header, view, MAX_VIEW, NESTED_BLOCKS};
 use reference::opcode::*;
@@ -33,6 +35,7 @@ pub enum Point {
     Spent(Depth),
     Lowered(Depth),
     Refused(u8),
+    Word(Word),
 }
 
 type Opcode = u8;
@@ -79,6 +82,7 @@ pub fn all_points() -> Vec<Point> {
     }
     points.extend((0..=1).map(Point::Lowered));
     points.extend((1..=9).map(Point::Refused));
+    points.extend(words::all_points().into_iter().map(Point::Word));
     points
 }
 
@@ -103,7 +107,10 @@ impl Coverage {
         for reader in 0..=labels.into() {
             self.read(file, reader, &mut buffer);
         }
-        self.read(file, 0, &mut buffer[..61]);
+        self.read(file, 0, &mut buffer[..view::RECORDS - 1]);
+        if let Ok(parsed) = File::parse(file) {
+            self.reach_words(words::of_labels(parsed.parts.labels(), &file[header::LENGTH..]));
+        }
     }
 
     fn read(&self, file: &[u8], reader: usize, buffer: &mut [u8]) {
@@ -122,6 +129,10 @@ impl Coverage {
         points.into_iter().for_each(|back| self.reach(Point::Back(back)));
     }
 
+    fn reach_words(&self, points: impl IntoIterator<Item = Word>) {
+        points.into_iter().for_each(|word| self.reach(Point::Word(word)));
+    }
+
     pub fn count(&self, point: Point) -> u64 {
         self.counts.borrow().get(&point).copied().unwrap_or(0)
     }
@@ -132,6 +143,11 @@ impl Coverage {
 }
 
 impl Rules for Coverage {
+    fn flow_test(&self, from: Label, to: Label) -> u32 {
+        self.reach_words(words::of_test(from, to));
+        Paper.flow_test(from, to)
+    }
+
     fn raised(&self, raiser: Raiser, _current: Label, _by: Label, raised: Label) -> Label {
         self.unsealing.set(raiser == Raiser::OpenFault);
         raised
@@ -224,6 +240,9 @@ impl fmt::Display for Coverage {
         }
         for back in clearances::of_files() {
             writeln!(f, "{back:?}: {}", self.count(Point::Back(back)))?;
+        }
+        for word in words::all_points() {
+            writeln!(f, "{word:?}: {}", self.count(Point::Word(word)))?;
         }
         let mut row = |name: &str, points: &mut dyn Iterator<Item = (usize, Point)>| {
             let counts: Vec<String> =

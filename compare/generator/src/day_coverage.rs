@@ -4,6 +4,7 @@
 use crate::admission::{self, Admission, Declared};
 use crate::clearances::{self, Back, Watch};
 use crate::halves::{self, Half};
+use crate::words::{self, Word};
 use reference::day::Day;
 use reference::day_rules::{Allowances, DayRules};
 use reference::label::Label;
@@ -49,6 +50,7 @@ pub enum Point {
     ReadHandle,
     Half(Half),
     Back(Back),
+    Word(Word),
 }
 
 type Opcode = u8;
@@ -65,6 +67,7 @@ pub fn all_points() -> Vec<Point> {
     points.extend((1..=3).map(Ended));
     points.extend(halves::of_any().map(Point::Half));
     points.extend(clearances::of_days().into_iter().map(Point::Back));
+    points.extend(words::all_points().into_iter().map(Point::Word));
     points
 }
 
@@ -96,6 +99,7 @@ impl DayCoverage {
         if let Ok(day) = Day::parse(file) {
             self.add_jobs(file);
             self.add_admission(&day);
+            self.reach_words(words::of_labels(day.parts.labels(), &file[day_header::LENGTH..]));
         }
     }
 
@@ -139,6 +143,10 @@ impl DayCoverage {
         points.into_iter().for_each(|back| self.reach(Point::Back(back)));
     }
 
+    fn reach_words(&self, points: impl IntoIterator<Item = Word>) {
+        points.into_iter().for_each(|word| self.reach(Point::Word(word)));
+    }
+
     pub fn count(&self, point: Point) -> u64 {
         self.counts.borrow().get(&point).copied().unwrap_or(0)
     }
@@ -168,6 +176,11 @@ impl DayCoverage {
 const GONE: Content = Content::Fault(Fault::VANISHED);
 
 impl Rules for DayCoverage {
+    fn flow_test(&self, from: Label, to: Label) -> u32 {
+        self.reach_words(words::of_test(from, to));
+        Paper.flow_test(from, to)
+    }
+
     fn raised(&self, raiser: Raiser, _current: Label, _by: Label, raised: Label) -> Label {
         if raiser == Raiser::Read && self.later.get() {
             self.reach(Point::Read);

@@ -2,6 +2,7 @@
 //! code.
 
 use crate::day_statements::code;
+use crate::parties::Parties;
 use crate::random::Random;
 use crate::{day_invalid, parts};
 use reference::day::Day;
@@ -39,7 +40,11 @@ pub fn any(seed: u64) -> Vec<u8> {
 }
 
 pub fn day(random: &mut Random) -> DayScript {
-    let labels = parts::labels(random);
+    day_of(random, Parties::Eight)
+}
+
+pub(crate) fn day_of(random: &mut Random, parties: Parties) -> DayScript {
+    let labels = parts::labels(random, parties);
     let mut records = parts::records(random, labels.len());
     // References are what jobs pass things through.
     for record in &mut records {

@@ -1,6 +1,7 @@
 //! Files that can be quoted: every target lies ahead, and there is no TRY. Most of
 //! what they do works, so that their runs come far.
 
+use crate::parties::Parties;
 use crate::random::Random;
 use crate::{days, forward_code, invalid, near_miss, parts};
 use reference::limits::MAX_PLACES;
@@ -27,7 +28,7 @@ pub fn any(seed: u64) -> Vec<u8> {
 }
 
 pub fn script(random: &mut Random) -> Script {
-    let labels = parts::labels(random);
+    let labels = parts::labels(random, Parties::Eight);
     let records = parts::records(random, labels.len());
     let code = forward_code::code(random, labels.len(), &records);
     let mut script = Script { labels, code, steps: 1, places: records.len() as u16, records };

@@ -1,7 +1,8 @@
 //! Files to be refused: a valid one, broken in one way.
 
+use crate::parties::Parties;
 use crate::random::Random;
-use reference::limits::header;
+use reference::limits::{header, MAX_CLAUSES};
 use reference::opcode::*;
 use reference::script::{Clauses, Input, Script};
 
@@ -89,12 +90,14 @@ fn wrong_labels(random: &mut Random, mut script: Script) -> Vec<u8> {
 /// Makes one of the labels malformed, or tells that a count is to be broken.
 pub fn break_label(random: &mut Random, labels: &mut [Clauses]) -> bool {
     let at = random.below(labels.len());
-    let masks = match random.below(6) {
+    let masks = match random.below(8) {
         0 => vec![1, 3],
         1 => vec![2, 1],
-        2 => vec![random.within(64, 255) as u8],
-        3 => vec![0, 5],
+        2 => [&Parties::Eight.longest_formula()[..], &[255]].concat(),
+        3 => vec![0, random.within(1, 255) as u8],
         4 => vec![4, 4],
+        5 => vec![64, 192],
+        6 => vec![128, 64],
         _ => return false,
     };
     if random.chance(50) {
@@ -107,7 +110,7 @@ pub fn break_label(random: &mut Random, labels: &mut [Clauses]) -> bool {
 
 /// A count of clauses, of the label at `at`, that the entries do not bear out.
 pub fn break_count(random: &mut Random, file: &mut [u8], at: usize) {
-    file[at + random.below(2)] = random.within(21, 255) as u8;
+    file[at + random.below(2)] = random.within(MAX_CLAUSES + 1, 255) as u8;
 }
 
 fn wrong_record(random: &mut Random, mut script: Script) -> Vec<u8> {

@@ -22,7 +22,9 @@ pub mod halves;
 pub mod invalid;
 mod lowering;
 pub mod near_miss;
+pub mod old;
 pub mod others;
+pub mod parties;
 pub mod parts;
 pub mod paths;
 mod probes;
@@ -32,8 +34,10 @@ pub mod short;
 pub mod spending;
 mod statements;
 mod strays;
+pub mod words;
 mod writer;
 
+use parties::Parties;
 use random::Random;
 use reference::script::Script;
 
@@ -64,7 +68,11 @@ pub fn any(seed: u64) -> Vec<u8> {
 }
 
 pub fn script(random: &mut Random) -> Script {
-    let labels = parts::labels(random);
+    script_of(random, Parties::Eight)
+}
+
+fn script_of(random: &mut Random, parties: Parties) -> Script {
+    let labels = parts::labels(random, parties);
     let records = parts::records(random, labels.len());
     let (steps, places) = parts::allotment(random, records.len());
     let code = writer::code(random, &labels, &records, steps);

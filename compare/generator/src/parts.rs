@@ -1,17 +1,26 @@
 //! The parts of a script around its code: labels, records, allotments.
 
+use crate::parties::Parties;
 use crate::random::Random;
-use reference::label::formula;
+use reference::label::Label;
 use reference::script::{Clauses, Input};
+use reference::table::formula;
 
 /// Formulas that often stand in an order to one another.
 const SECRECY: [&[u8]; 8] = [&[], &[1], &[2], &[1, 2], &[3], &[4], &[1, 2, 4], &[0]];
 const INTEGRITY: [&[u8]; 7] = [&[], &[], &[], &[4], &[4, 8], &[12], &[1]];
 
 /// Labels: the first two a start and a clearance, mostly far apart.
-pub fn labels(random: &mut Random) -> Vec<Clauses> {
+pub fn labels(random: &mut Random, parties: Parties) -> Vec<Clauses> {
+    let mut labels = cast_labels(random, parties);
+    parties.recast(random, &mut labels);
+    labels
+}
+
+/// Labels in which the first four principals have the most to say.
+fn cast_labels(random: &mut Random, parties: Parties) -> Vec<Clauses> {
     let count = if random.chance(3) { 32 } else { random.within(3, 8) };
-    let mut labels: Vec<Clauses> = (0..count).map(|_| label(random)).collect();
+    let mut labels: Vec<Clauses> = (0..count).map(|_| label(random, parties)).collect();
     if random.chance(25) {
         (labels[0], labels[1]) = narrow(random);
         return labels;
@@ -42,28 +51,28 @@ fn narrow(random: &mut Random) -> (Clauses, Clauses) {
 
 pub fn flows(from: &Clauses, to: &Clauses) -> bool {
     let table = |masks: &[u8]| formula(masks).expect("generated lists are well formed");
-    let label = |clauses: &Clauses| reference::label::Label {
-        secrecy: table(&clauses.secrecy),
-        integrity: table(&clauses.integrity),
-    };
+    let label =
+        |clauses: &Clauses| Label { secrecy: table(&clauses.secrecy), integrity: table(&clauses.integrity) };
     label(from).flows_to(label(to))
 }
 
-fn label(random: &mut Random) -> Clauses {
+fn label(random: &mut Random, parties: Parties) -> Clauses {
     if random.chance(15) {
-        return Clauses { secrecy: any_formula(random), integrity: any_formula(random) };
+        return Clauses { secrecy: any_formula(random, parties), integrity: any_formula(random, parties) };
     }
     Clauses::new(random.pick(&SECRECY), random.pick(&INTEGRITY))
 }
 
 /// Any well-formed list of clauses, from none to the longest.
-fn any_formula(random: &mut Random) -> Vec<u8> {
-    if random.chance(5) {
-        return (0u8..64).filter(|mask| mask.count_ones() == 3).collect();
+fn any_formula(random: &mut Random, parties: Parties) -> Vec<u8> {
+    if random.chance(10) {
+        // Any part of the longest list is well formed, too.
+        let kept = random.pick(&[100, 100, 90, 50]);
+        return parties.longest_formula().into_iter().filter(|_| random.chance(kept)).collect();
     }
     let density = random.within(1, 20);
     let mut masks: Vec<u8> = Vec::new();
-    for mask in 1..64u8 {
+    for mask in parties.masks().skip(1) {
         if random.chance(density) && !masks.iter().any(|&earlier| earlier & !mask == 0) {
             masks.push(mask);
         }

@@ -2,7 +2,7 @@
 
 use crate::Answer::Loaded;
 use crate::{case, plain, Case};
-use cases::bounds::twenty_clauses;
+use cases::bounds::seventy_clauses;
 use cases::paper;
 use reference::opcode::*;
 use reference::script::{Clauses, Code, Input, Script};
@@ -11,7 +11,7 @@ pub fn cases() -> Vec<Case> {
     let mut cases = vec![
         case("every instruction", Loaded, every_instruction()),
         case("the longest file", Loaded, longest()),
-        case("labels of every length", Loaded, every_length()),
+        case("labels of many lengths", Loaded, many_lengths()),
     ];
     let papers = [paper::example(), paper::p9(), paper::p10(), paper::p11(), paper::p12()];
     cases.extend(papers.map(|paper| case(paper.name, Loaded, paper.file)));
@@ -34,7 +34,7 @@ fn every_instruction() -> Vec<u8> {
 
 /// Every count at its most, every entry at its longest.
 fn longest() -> Vec<u8> {
-    let full = Clauses::new(&twenty_clauses(), &twenty_clauses());
+    let full = Clauses::new(&seventy_clauses(), &seventy_clauses());
     let script = Script {
         labels: vec![full; 32],
         records: vec![Input::reference(31, u32::MAX); 64],
@@ -45,10 +45,11 @@ fn longest() -> Vec<u8> {
     script.bytes()
 }
 
-/// Label i has i clauses of secrecy and 20 - i of integrity.
-fn every_length() -> Vec<u8> {
-    let twenty = twenty_clauses();
+/// Labels of 0, 14, 28 and so on up to 70 clauses of secrecy, and the rest of 70 of integrity.
+fn many_lengths() -> Vec<u8> {
+    let seventy = seventy_clauses();
     let mut script = plain();
-    script.labels.extend((0..=20).map(|count| Clauses::new(&twenty[..count], &twenty[count..])));
+    let lengths = (0..=70).step_by(14);
+    script.labels.extend(lengths.map(|count| Clauses::new(&seventy[..count], &seventy[count..])));
     script.bytes()
 }

@@ -198,7 +198,7 @@ fn last_instructions() -> Vec<Case> {
         let code = [vec![END; length - 5], with_zeros(PUSH)].concat();
         case(format!("PUSH last of {length}"), Refused(7), file(2, 0, code))
     };
-    cases.extend([push_last(6), push_last(4096)]);
+    cases.extend([push_last(6), push_last(512)]);
     cases.push(case("IFZ to itself last", Refused(7), file(2, 0, vec![IFZ, 0, 0])));
     cases
 }

@@ -23,7 +23,7 @@ fn records() -> Vec<Case> {
         let file = plain_but(|script| set_records(script, count));
         case(format!("{count} records"), Answer::unless(count <= 64, 2), file)
     };
-    [0, 1, 2, 63, 64, 65].map(records).to_vec()
+    [0, 1, 2, 64, 65].map(records).to_vec()
 }
 
 fn code() -> Vec<Case> {
@@ -52,7 +52,7 @@ fn places() -> Vec<Case> {
         case(format!("{places} places and {records} records"), demanded, file)
     };
     let none = [0, 1, 255, 256, 257, 512, 65_535].map(|count| (count, 0));
-    let some = [(0, 1), (1, 1), (2, 1), (2, 3), (3, 3), (4, 3), (256, 3), (257, 3), (63, 64), (64, 64)];
+    let some = [(0, 1), (1, 1), (2, 1), (2, 3), (3, 3), (4, 3), (256, 3), (257, 3), (64, 64)];
     none.into_iter().chain(some).map(places).collect()
 }
 

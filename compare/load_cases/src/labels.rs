@@ -3,7 +3,7 @@
 
 use crate::Answer::{self, Loaded, Refused};
 use crate::{case, patched, plain, plain_but, set_records, Case};
-use cases::bounds::twenty_clauses;
+use cases::bounds::{seventy_clauses, twenty_clauses};
 use reference::limits::header;
 use reference::script::{Clauses, Script};
 
@@ -18,10 +18,15 @@ fn third_label(secrecy: &[u8], integrity: &[u8]) -> Vec<u8> {
     })
 }
 
-const WELL_FORMED: [&[u8]; 11] = [
+const WELL_FORMED: [&[u8]; 20] = [
     &[0],
     &[1],
     &[63],
+    &[64],
+    &[127],
+    &[128],
+    &[192],
+    &[255],
     &[1, 2],
     &[3, 5],
     &[31, 32],
@@ -29,26 +34,27 @@ const WELL_FORMED: [&[u8]; 11] = [
     &[6, 9],
     &[1, 62],
     &[7, 56],
-    &[1, 2, 4, 8, 16, 32],
+    &[1, 64],
+    &[63, 64],
+    &[64, 128],
+    &[127, 128],
+    &[1, 2, 4, 8, 16, 32, 64, 128],
 ];
 
 /// Each with what is wrong with it; a subset stands before or behind the mask that
 /// it is a subset of.
-const MALFORMED: [(&[u8], &str); 26] = [
-    (&[64], "over 63"),
-    (&[65], "over 63"),
-    (&[127], "over 63"),
-    (&[128], "over 63"),
-    (&[255], "over 63"),
-    (&[1, 64], "over 63"),
-    (&[63, 64], "over 63"),
+const MALFORMED: [(&[u8], &str); 28] = [
     (&[1, 1], "equal"),
     (&[0, 0], "equal"),
     (&[63, 63], "equal"),
+    (&[64, 64], "equal"),
+    (&[255, 255], "equal"),
     (&[1, 2, 2], "equal"),
     (&[2, 1], "descending"),
     (&[5, 3], "descending"),
     (&[32, 31], "descending"),
+    (&[64, 63], "descending"),
+    (&[128, 64], "descending"),
     (&[1, 4, 2], "descending"),
     (&[1, 3], "subset before"),
     (&[3, 7], "subset before"),
@@ -56,9 +62,14 @@ const MALFORMED: [(&[u8], &str); 26] = [
     (&[0, 1], "subset before"),
     (&[0, 63], "subset before"),
     (&[62, 63], "subset before"),
+    (&[64, 192], "subset before"),
+    (&[128, 255], "subset before"),
+    (&[0, 128], "subset before"),
     (&[1, 6, 9], "subset two before"),
     (&[1, 2, 3], "two subsets before"),
+    (&[64, 129, 193], "two subsets before"),
     (&[3, 1], "subset behind"),
+    (&[192, 128], "subset behind"),
     (&[1, 0], "subset behind"),
     (&[3, 12, 1], "subset two behind"),
 ];
@@ -79,17 +90,19 @@ fn masks() -> Vec<Case> {
 }
 
 fn many_clauses() -> Vec<Case> {
-    let twenty = twenty_clauses();
-    let nineteen = &twenty[..19];
-    let twenty_one = [&twenty[..], &[63]].concat();
+    let (twenty, seventy) = (twenty_clauses(), seventy_clauses());
+    let twenty_one = [&twenty[..], &[64]].concat();
+    let seventy_one = [&seventy[..], &[255]].concat();
     let every: Vec<u8> = (0..255).collect();
     vec![
-        case("19 clauses", Loaded, third_label(nineteen, &[])),
         case("20 clauses", Loaded, third_label(&twenty, &[])),
-        case("20 clauses of integrity", Loaded, third_label(&[], &twenty)),
-        case("20 and 20 clauses", Loaded, third_label(&twenty, &twenty)),
-        case("21 clauses", Refused(4), third_label(&twenty_one, &[])),
-        case("21 clauses of integrity", Refused(4), third_label(&[], &twenty_one)),
+        case("21 clauses", Loaded, third_label(&twenty_one, &[])),
+        case("21 clauses of integrity", Loaded, third_label(&[], &twenty_one)),
+        case("70 clauses", Loaded, third_label(&seventy, &[])),
+        case("70 clauses of integrity", Loaded, third_label(&[], &seventy)),
+        case("70 and 70 clauses", Loaded, third_label(&seventy, &seventy)),
+        case("71 clauses", Refused(4), third_label(&seventy_one, &[])),
+        case("71 clauses of integrity", Refused(4), third_label(&[], &seventy_one)),
         case("255 clauses", Refused(4), third_label(&every, &[])),
     ]
 }
@@ -99,7 +112,7 @@ fn positions() -> Vec<Case> {
     let at = |count: usize, at: usize| {
         let file = plain_but(|script| {
             script.labels.resize(count, Clauses::default());
-            script.labels[at] = Clauses::new(&[64], &[]);
+            script.labels[at] = Clauses::new(&[64, 64], &[]);
         });
         case(format!("label {at} of {count} malformed"), Refused(4), file)
     };

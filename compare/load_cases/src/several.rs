@@ -23,7 +23,7 @@ fn wrong_for(reasons: &[u8]) -> Vec<u8> {
 fn break_part(script: &mut Script, reason: u8) {
     match reason {
         2 => script.steps = 0,
-        4 => script.labels[2] = Clauses::new(&[64], &[]),
+        4 => script.labels[2] = Clauses::new(&[64, 64], &[]),
         5 => script.labels.swap(0, 1),
         6 => script.records[0].kind = 2,
         7 => script.code = vec![0x1E],
@@ -79,9 +79,11 @@ fn other_pairs() -> Vec<Case> {
             script.code = vec![0x1E];
         }),
         labels_at_17(pair("steps and labels offset", 2, |script| script.steps = 0)),
-        labels_at_17(pair("labels offset and mask", 3, |script| script.labels[1] = Clauses::new(&[64], &[]))),
+        labels_at_17(pair("labels offset and mask", 3, |script| {
+            script.labels[1] = Clauses::new(&[64, 64], &[])
+        })),
         pair("mask and start", 4, |script| {
-            script.labels = vec![Clauses::new(&[1], &[]), Clauses::default(), Clauses::new(&[64], &[])];
+            script.labels = vec![Clauses::new(&[1], &[]), Clauses::default(), Clauses::new(&[64, 64], &[])];
         }),
         pair("mask and kind", 4, |script| {
             script.labels[1] = Clauses::new(&[3, 1], &[]);

@@ -18,9 +18,17 @@ const BY_EITHER: Label = (&[], &[3]);
 const BY_PLAYER: Label = (&[], &[1]);
 const BY_BOTH: Label = (&[], &[1, 2]);
 const BY_NO_ONE: Label = (&[], &[0]);
+const HIRER: Label = (&[64], &[]);
+const DESK: Label = (&[128], &[]);
+const HIRER_OR_DESK: Label = (&[192], &[]);
+const HIRER_AND_DESK: Label = (&[64, 128], &[]);
+const BY_HIRER: Label = (&[], &[64]);
+const BY_DESK: Label = (&[], &[128]);
+const BY_HIRER_OR_DESK: Label = (&[], &[192]);
+const BY_HIRER_AND_DESK: Label = (&[], &[64, 128]);
 
 /// Each flows from the first to the second; none flows back.
-const ONE_WAY: [(&str, Label, Label); 17] = [
+const ONE_WAY: [(&str, Label, Label); 25] = [
     ("public to player", PUBLIC, PLAYER),
     ("player or dealer to player", EITHER, PLAYER),
     ("player to player and dealer", PLAYER, BOTH),
@@ -38,15 +46,25 @@ const ONE_WAY: [(&str, Label, Label); 17] = [
     ("secrecy up and integrity kept", (&[], &[4]), (&[1], &[4])),
     ("secrecy kept and integrity down", (&[1], &[4]), (&[1], &[])),
     ("lowest to highest", BY_NO_ONE, NO_ONE),
+    ("public to hirer or desk", PUBLIC, HIRER_OR_DESK),
+    ("hirer or desk to desk", HIRER_OR_DESK, DESK),
+    ("hirer to hirer and desk", HIRER, HIRER_AND_DESK),
+    ("hirer and desk to false secrecy", HIRER_AND_DESK, NO_ONE),
+    ("hirer or desk to any integrity", BY_HIRER_OR_DESK, PUBLIC),
+    ("desk to hirer or desk of integrity", BY_DESK, BY_HIRER_OR_DESK),
+    ("hirer and desk to hirer of integrity", BY_HIRER_AND_DESK, BY_HIRER),
+    ("false to hirer and desk integrity", BY_NO_ONE, BY_HIRER_AND_DESK),
 ];
 
 /// Neither flows to the other.
-const APART: [(&str, Label, Label); 5] = [
+const APART: [(&str, Label, Label); 7] = [
     ("player and dealer", PLAYER, DEALER),
     ("player and vouched for", PLAYER, (&[2], &[4])),
     ("public and vouched for player", PUBLIC, (&[1], &[4])),
     ("integrity of player and of bench", BY_PLAYER, BY_BENCH),
     ("public and false twice", PUBLIC, (&[0], &[0])),
+    ("hirer and desk", HIRER, DESK),
+    ("integrity of hirer and of desk", BY_HIRER, BY_DESK),
 ];
 
 const ALONE: [(&str, Label); 4] = [

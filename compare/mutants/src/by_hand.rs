@@ -4,16 +4,17 @@
 
 use crate::list::Mutant;
 use cases::label::{CLEARANCE, DEALER, PLAYER, PUBLIC, VOUCHED};
+use cases::parties::{one_word_tests, DESK, HIRER};
 use cases::record::{REFERENCE_PUBLIC, SEALED_DEALER, SEALED_PLAYER, SEALED_PUBLIC};
 use generator::alike::Pair;
 use reference::opcode::*;
-use reference::script::{Clauses, Code, Script};
+use reference::script::{Clauses, Code, Input, Script};
 
 /// A pair, and mutants that it tells from the paper's rules.
 pub type Told = (&'static [Mutant], Pair);
 
 pub fn pairs() -> Vec<Told> {
-    [by_outcome(), by_cost(), by_traces(), by_handlers(), by_clearances(), by_views()].concat()
+    [by_outcome(), by_cost(), by_traces(), by_handlers(), by_clearances(), by_views(), by_words()].concat()
 }
 
 fn pair(mutants: &'static [Mutant], write: impl FnOnce(&mut Code)) -> Vec<Told> {
@@ -242,8 +243,8 @@ fn by_views() -> Vec<Told> {
     [
         acts(&[EndingShown, ResultShown], throw),
         acts(&[StepsShown, NextPlaceShown, HiddenCounted], make),
-        acts(&[LabelShown], raise),
-        acts(&[ClearanceShown], |code| _ = code.lab(PLAYER).op(LOWER)),
+        acts(&[LabelShown, OldHidden], raise),
+        acts(&[ClearanceShown, OldHidden], |code| _ = code.lab(PLAYER).op(LOWER)),
         acts(&[OpenReplaces], |code| {
             code.input(SEALED_PUBLIC).ops(&[OPEN, END]);
         }),
@@ -253,4 +254,48 @@ fn by_views() -> Vec<Told> {
         acts(&[JoinOrsSecrecy], |code| _ = code.input(SEALED_DEALER).ops(&[OPEN, END])),
     ]
     .concat()
+}
+
+/// What one word of a table alone hides: a record of a label that would flow to the reader
+/// but for that word, by secrecy and then by integrity.
+fn by_words() -> Vec<Told> {
+    use Mutant::*;
+    const TOLD: [&[Mutant]; 8] = [
+        &[Word0Unlooked, OneWordEnough, HirerInAll, DeskInAll],
+        &[Word0Unlooked, OneWordEnough, HirerInAll, DeskInAll],
+        &[Word1Unlooked, OneWordEnough, HirerInNone, BothInNone],
+        &[Word1Unlooked, OneWordEnough, HirerInNone, BothInNone],
+        &[Word2Unlooked, OneWordEnough, DeskInNone, BothInNone],
+        &[Word2Unlooked, OneWordEnough, DeskInNone, BothInNone],
+        &[Word3Unlooked, OneWordEnough, HirerInNone, DeskInNone, BothInNone],
+        &[Word3Unlooked, OneWordEnough, HirerInNone, DeskInNone, BothInNone],
+    ];
+    let mut pairs: Vec<Told> = TOLD
+        .into_iter()
+        .zip(one_word_tests())
+        .flat_map(|(mutants, test)| of_two(mutants, test.from, test.to, |code| _ = code.push(1).end()))
+        .collect();
+    // The hirer's number is opened, and the desk reads.
+    let (hirer, desk) = (Clauses::new(&[HIRER], &[]), Clauses::new(&[DESK], &[]));
+    pairs.extend(of_two(&[LowestJoined], hirer, desk, |code| _ = code.input(0).ops(&[OPEN, END])));
+    pairs
+}
+
+/// A pair that differs in a number of the label `secret`, and another label that reads.
+fn of_two(
+    mutants: &'static [Mutant],
+    secret: Clauses,
+    reader: Clauses,
+    write: impl FnOnce(&mut Code),
+) -> Vec<Told> {
+    let mut code = Code::new();
+    write(&mut code);
+    let script = Script {
+        labels: vec![Clauses::default(), Clauses::new(&[0], &[]), secret, reader],
+        records: vec![Input::sealed(2, 7)],
+        code: code.bytes(),
+        steps: 10,
+        places: 1,
+    };
+    hiding_in(script, 0, 3, mutants)
 }

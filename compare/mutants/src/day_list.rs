@@ -84,6 +84,9 @@ mutants! {
     SkipTellsSteps Wrong "a skipped job's steps used are those declared",
     SkipTellsPlace Wrong "a skipped job's next place is C",
     SkipCountsInputs Wrong "a skipped job's records shown are the inputs",
+    SkipOldRecordsAt Wrong "a skipped job's fifth number is 62",
+    SkipOldLength Wrong "a skipped job's length is 62",
+    SkipOldView Wrong "a skipped job's view has 62 bytes, and says so",
     StepsOfCaller Wrong "steps used are the caller's allowance less the steps left",
 
     // Check 9.
@@ -91,6 +94,7 @@ mutants! {
     FirstViewChecked Wrong "check 9 is on the first view alone",
     LongestViewChecked Wrong "check 9 is on the longest view alone",
     SumWraps Wrong "check 9 is on the sum modulo 2^16",
+    OldWidthsChecked Wrong "check 9 is on 62 bytes for each view, and 36 for each record",
     RoomForOneMore Wrong "check 9 wants one byte more than the sum",
     ByteBeforeCheck Wrong "a byte is written before check 9",
     ViewsBeforeCheck Wrong "views are written until one does not fit",

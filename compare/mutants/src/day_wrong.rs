@@ -3,9 +3,10 @@
 use crate::day_admission;
 use crate::day_list::DayMutant;
 use crate::handlers::Notes;
+use crate::wrong::{OLD_RECORD, OLD_RECORDS};
 use reference::day_rules::{Allowances, DayRules};
 use reference::label::Label;
-use reference::limits::{view, LOCALS};
+use reference::limits::{shown, view, LOCALS};
 use reference::machine::Finished;
 use reference::opcode::*;
 use reference::parts::{short, Job};
@@ -205,9 +206,19 @@ impl DayRules for WrongDay {
             DayMutant::SkipCountsInputs => numbers[3] = inputs as u16,
             DayMutant::SkipWithoutRecordsAt => numbers[4] = 0,
             DayMutant::SkipWithoutLength => numbers[5] = 0,
+            DayMutant::SkipOldRecordsAt => numbers[4] = OLD_RECORDS as u16,
+            DayMutant::SkipOldLength => numbers[5] = OLD_RECORDS as u16,
+            DayMutant::SkipOldView => numbers[4..].fill(OLD_RECORDS as u16),
             _ => (),
         }
         numbers
+    }
+
+    fn skipped_length(&self) -> usize {
+        match self.mutant {
+            DayMutant::SkipOldView => OLD_RECORDS,
+            _ => Paper.skipped_length(),
+        }
     }
 
     fn needed(&self, lengths: &[usize]) -> usize {
@@ -217,6 +228,7 @@ impl DayRules for WrongDay {
             DayMutant::FirstViewChecked => lengths[0],
             DayMutant::LongestViewChecked => lengths.iter().copied().max().unwrap_or(0),
             DayMutant::SumWraps => sum % 65_536,
+            DayMutant::OldWidthsChecked => lengths.iter().copied().map(old_length).sum(),
             DayMutant::RoomForOneMore => sum + 1,
             _ => sum,
         }
@@ -269,6 +281,11 @@ fn rebased(code: &[u8], start: usize) -> Vec<u8> {
         at += shape.length;
     }
     code
+}
+
+/// What a view of this length would take by the widths from before there were eight principals.
+fn old_length(length: usize) -> usize {
+    OLD_RECORDS + OLD_RECORD * ((length - view::RECORDS) / shown::LENGTH)
 }
 
 /// How many bytes the first views have that fit.

@@ -17,6 +17,7 @@ pub mod loader;
 pub mod quote_search;
 pub mod quoter;
 pub mod search;
+pub mod words;
 pub mod writer;
 pub mod writer_search;
 pub mod wrong;
@@ -28,7 +29,7 @@ pub mod wrong_writers;
 /// How many generated pairs are tried.
 pub const MOST_PAIRS: u64 = 20_000;
 /// How many generated pairs of days are tried.
-pub const MOST_DAY_PAIRS: u64 = 20_000;
+pub const MOST_DAY_PAIRS: u64 = 40_000;
 /// How many generated files are tried to be quoted.
 pub const MOST_QUOTES: u64 = 20_000;
 /// How many generated files are tried to be printed.

@@ -143,6 +143,33 @@ mutants! {
     OperandsPopped Wrong "the operands of a faulting instruction are popped",
     FaultsFree Wrong "a faulting instruction takes no step",
 
+    // The words of a table. The sets of words 1 and 3 have the hirer, principal 6, and those
+    // of words 2 and 3 the desk, principal 7.
+    Word0Unlooked Leak "the flow test does not look at word 0",
+    Word1Unlooked Leak "the flow test does not look at word 1",
+    Word2Unlooked Leak "the flow test does not look at word 2",
+    Word3Unlooked Leak "the flow test does not look at word 3",
+    OneWordEnough Leak "a half of the flow test fails only if it fails in all words",
+    LowestJoined Leak "join is of the lowest word, and leaves the others of the first label",
+    LowestMet Wrong "meet is of the lowest word, and leaves the others of the first label",
+    HirerInNone Leak "no set has principal 6, as if bit 6 were one of a set within a word",
+    DeskInNone Leak "no set has principal 7, as if bit 7 were one of a set within a word",
+    BothInNone Leak "no set has principal 6 or 7: every word of a clause is the lowest",
+    HirerInAll Leak "every set has principal 6",
+    DeskInAll Leak "every set has principal 7",
+    HirerAsDesk Wrong "principals 6 and 7 are taken for one another",
+    ValueTurned Wrong "the view has the highest word of a label that is a value first",
+    RunLabelTurned Wrong "the view has the highest word of the final label first",
+    ClearanceTurned Wrong "the view has the highest word of the clearance first",
+    RecordLabelTurned Wrong "the view has the highest word of a record's label first",
+
+    // Widths of the view from before there were eight principals.
+    OldHidden Leak "50 bytes behind the six numbers are 0 where the final label is hidden",
+    OldRecordsAt Wrong "the fifth number is 62",
+    OldLength Wrong "the length is 62, and 36 for each record",
+    OldRecordLength Wrong "the length is 206, and 36 for each record",
+    OldRecordsApart Wrong "records start 36 bytes apart",
+
     // Views.
     HiddenShown Leak "the view shows hidden records",
     ShownByFinalLabel Leak "records are shown by the run's final label",

@@ -4,6 +4,7 @@
 use reference::label::Label;
 use reference::limits::{header, input};
 use reference::opcode::*;
+use reference::table::Table;
 use std::collections::BTreeSet;
 use std::ops::RangeInclusive;
 
@@ -233,9 +234,8 @@ pub fn entry(file: &[u8], at: usize) -> Option<(&[u8], &[u8])> {
 }
 
 /// The table of any masks, well formed or not.
-pub fn table(masks: &[u8]) -> u64 {
-    let holds = |set: u8| masks.iter().all(|mask| mask & set != 0);
-    (0..64).filter(|&set| holds(set)).fold(0, |table, set| table | 1 << set)
+pub fn table(masks: &[u8]) -> Table {
+    Table::of(|set| masks.iter().all(|&mask| usize::from(mask) & set != 0))
 }
 
 pub fn ascends(masks: &[u8]) -> bool {
@@ -255,7 +255,8 @@ pub fn at_most(masks: &[u8], highest: u8) -> bool {
     masks.iter().all(|&mask| mask <= highest)
 }
 
-/// No longer list keeps the other rules, so the limit of 20 can't be missed.
+/// No longer list keeps the other rules, so the limit of 70 can't be missed. Nor can that of
+/// 255, as a mask is a byte.
 pub fn well_formed(masks: &[u8]) -> bool {
-    masks.len() <= 20 && ascends(masks) && subset_free(masks) && at_most(masks, 63)
+    masks.len() <= 70 && ascends(masks) && subset_free(masks)
 }

@@ -1,8 +1,10 @@
-//! Writing by shifts and masks that can be changed one by one. With the paper's it
-//! writes and prints as the reference does, which leaves them to the standard library.
+//! Writing by words, shifts and masks that can be changed one by one. With the paper's it
+//! writes and prints as the reference does, which leaves the last two to the standard library.
 
 use reference::day_rules::DayRules;
-use reference::rules::Rules;
+use reference::limits::WORDS;
+use reference::rules::{Rules, TableOf};
+use reference::table::Table;
 
 /// How a byte is cut out of a number, or a digit out of a byte.
 #[derive(Clone, Copy, Debug)]
@@ -23,9 +25,18 @@ impl Cut {
     }
 }
 
+/// What stands where a table may stand.
+pub type Words = [u64; WORDS];
+
 /// The rules of the writer.
 #[derive(Clone, Copy, Debug)]
 pub struct Writer {
+    /// The words of a table, in the order of the view.
+    pub table: fn(Words) -> Words,
+    /// The words of a number.
+    pub number: fn(u64) -> Words,
+    /// Whether there is a space before this byte of a field.
+    pub parts: fn(usize) -> bool,
     /// The bytes of a word, in the order of the view.
     pub word: [Cut; 8],
     /// The bytes of a 16-bit number.
@@ -38,6 +49,9 @@ pub struct Writer {
 
 /// The paper's rules.
 pub const PAPER: Writer = Writer {
+    table: |words| words,
+    number: |number| [number, 0, 0, 0],
+    parts: |_| false,
     word: [
         Cut::byte(0),
         Cut::byte(1),
@@ -56,6 +70,18 @@ pub const PAPER: Writer = Writer {
 impl DayRules for Writer {}
 
 impl Rules for Writer {
+    fn table_words(&self, _of: TableOf, table: Table) -> Words {
+        (self.table)(table.0)
+    }
+
+    fn number_words(&self, number: u32) -> Words {
+        (self.number)(number.into())
+    }
+
+    fn parts_field(&self, at: usize) -> bool {
+        (self.parts)(at)
+    }
+
     fn short_bytes(&self, number: u16) -> [u8; 2] {
         self.short.map(|cut| cut.of(number.into()))
     }

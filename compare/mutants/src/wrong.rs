@@ -2,13 +2,15 @@
 
 use crate::handlers::Notes;
 use crate::list::Mutant;
+use crate::words;
 use reference::day_rules::DayRules;
 use reference::label::{Label, INTEGRITY, SECRECY};
-use reference::limits::{LOCALS, NESTED_BLOCKS};
+use reference::limits::{view, LOCALS, NESTED_BLOCKS, WORDS};
 use reference::opcode::*;
-use reference::rules::{unless_flows, Field, Paper, Raiser, Rules};
+use reference::rules::{unless_flows, Field, Paper, Raiser, Rules, TableOf};
 use reference::run::{Frame, Run};
 use reference::store::Store;
+use reference::table::Table;
 use reference::value::{Content, Ending, Fault, Value};
 
 /// The paper's rules but for one.
@@ -70,6 +72,10 @@ impl Wrong {
 
 const BOTH: u32 = SECRECY + INTEGRITY;
 
+/// Where the records of a view started, and what one took, before there were eight principals.
+pub const OLD_RECORDS: usize = 62;
+pub const OLD_RECORD: usize = 36;
+
 /// Whether the fault is that of a failed flow test, and bears its answer.
 fn tells_half(fault: Fault) -> bool {
     matches!(fault.code, 23..=25)
@@ -78,17 +84,21 @@ fn tells_half(fault: Fault) -> bool {
 impl DayRules for Wrong {}
 
 impl Rules for Wrong {
+    fn clause(&self, mask: u8) -> Table {
+        words::clause(self.mutant, mask)
+    }
+
     fn flow_test(&self, from: Label, to: Label) -> u32 {
         match (self.mutant, Paper.flow_test(from, to)) {
             (Mutant::IntegrityBackwards, _) => {
-                let with = |label: Label, integrity: u64| Label { integrity, ..label };
+                let with = |label: Label, integrity: Table| Label { integrity, ..label };
                 Paper.flow_test(with(from, to.integrity), with(to, from.integrity))
             }
             (Mutant::HalvesSwapped, SECRECY) => INTEGRITY,
             (Mutant::HalvesSwapped, INTEGRITY) => SECRECY,
             (Mutant::BothAsSecrecy, BOTH) => SECRECY,
             (Mutant::BothAsIntegrity, BOTH) => INTEGRITY,
-            (_, answer) => answer,
+            (mutant, answer) => words::flow_test(mutant, from, to, answer),
         }
     }
 
@@ -108,14 +118,18 @@ impl Rules for Wrong {
         if self.is(Mutant::JoinOrsSecrecy) {
             joined.secrecy = one.secrecy | other.secrecy;
         }
+        if self.is(Mutant::LowestJoined) {
+            joined = words::in_lowest_word(joined, one);
+        }
         joined
     }
 
     fn meet(&self, one: Label, other: Label) -> Label {
-        if self.is(Mutant::MeetIsJoin) {
-            return Paper.join(one, other);
+        match self.mutant {
+            Mutant::MeetIsJoin => Paper.join(one, other),
+            Mutant::LowestMet => words::in_lowest_word(Paper.meet(one, other), one),
+            _ => Paper.meet(one, other),
         }
-        Paper.meet(one, other)
     }
 
     fn may_target(&self, opcode: u8, run: &Run, target: Label) -> Result<(), Fault> {
@@ -257,17 +271,55 @@ impl Rules for Wrong {
         }
     }
 
-    fn blanks(&self, field: Field) -> bool {
-        let shown = match self.mutant {
-            Mutant::EndingShown => Field::Ending,
-            Mutant::StepsShown => Field::Steps,
-            Mutant::NextPlaceShown => Field::NextPlace,
-            Mutant::ResultShown => Field::Result,
-            Mutant::LabelShown => Field::Label,
-            Mutant::ClearanceShown => Field::Clearance,
-            _ => return true,
+    fn blank(&self, field: Field, bytes: &mut [u8]) {
+        let blanked = match (self.mutant, field) {
+            (Mutant::EndingShown, Field::Ending)
+            | (Mutant::StepsShown, Field::Steps)
+            | (Mutant::NextPlaceShown, Field::NextPlace)
+            | (Mutant::ResultShown, Field::Result)
+            | (Mutant::LabelShown | Mutant::OldHidden, Field::Label)
+            | (Mutant::ClearanceShown | Mutant::OldHidden, Field::Clearance) => 0,
+            (Mutant::OldHidden, Field::Result) => OLD_RECORDS - view::RESULT,
+            _ => bytes.len(),
         };
-        field != shown
+        Paper.blank(field, &mut bytes[..blanked]);
+    }
+
+    fn records_at(&self) -> usize {
+        match self.mutant {
+            Mutant::OldRecordsAt => OLD_RECORDS,
+            _ => Paper.records_at(),
+        }
+    }
+
+    fn length(&self, shown: usize) -> usize {
+        match self.mutant {
+            Mutant::OldLength => OLD_RECORDS + OLD_RECORD * shown,
+            Mutant::OldRecordLength => view::RECORDS + OLD_RECORD * shown,
+            _ => Paper.length(shown),
+        }
+    }
+
+    fn table_words(&self, of: TableOf, table: Table) -> [u64; WORDS] {
+        let mut words = Paper.table_words(of, table);
+        let turned = match self.mutant {
+            Mutant::ValueTurned => TableOf::Value,
+            Mutant::RunLabelTurned => TableOf::RunLabel,
+            Mutant::ClearanceTurned => TableOf::Clearance,
+            Mutant::RecordLabelTurned => TableOf::RecordLabel,
+            _ => return words,
+        };
+        if of == turned {
+            words.reverse();
+        }
+        words
+    }
+
+    fn record_at(&self, index: usize) -> usize {
+        match self.mutant {
+            Mutant::OldRecordsApart => OLD_RECORD * index,
+            _ => Paper.record_at(index),
+        }
     }
 
     fn given_back(&self, run: &Run, frame: Frame, fault: Fault) -> Label {

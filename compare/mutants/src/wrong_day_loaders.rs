@@ -1,7 +1,7 @@
 //! Loaders of days with one rule wrong.
 
 use crate::day_loader::{DayLoader, PAPER};
-use reference::label::implies;
+use crate::words::{flows_but_for, flows_in_lowest_word};
 
 pub struct WrongDayLoader {
     /// The check whose rule is wrong; of two in the wrong order, the first.
@@ -130,10 +130,10 @@ const SPANS: &[Rule] = &[
 const STARTS: &[Rule] = &[
     (10, "starts are not looked at", |loader| loader.start = |_, _| true),
     (10, "secrecy alone has to flow", |loader| {
-        loader.start = |label, clearance| implies(clearance.secrecy, label.secrecy);
+        loader.start = |label, clearance| clearance.secrecy.implies(label.secrecy);
     }),
     (10, "integrity alone has to flow", |loader| {
-        loader.start = |label, clearance| implies(label.integrity, clearance.integrity);
+        loader.start = |label, clearance| label.integrity.implies(clearance.integrity);
     }),
     (10, "the clearance has to flow to the start", |loader| {
         loader.start = |label, clearance| clearance.flows_to(label);
@@ -141,6 +141,11 @@ const STARTS: &[Rule] = &[
     (10, "start and clearance must differ", |loader| {
         loader.start = |label, clearance| label != clearance && label.flows_to(clearance);
     }),
+    (10, "word 0 does not have to flow", |loader| loader.start = flows_but_for::<0>),
+    (10, "word 1 does not have to flow", |loader| loader.start = flows_but_for::<1>),
+    (10, "word 2 does not have to flow", |loader| loader.start = flows_but_for::<2>),
+    (10, "word 3 does not have to flow", |loader| loader.start = flows_but_for::<3>),
+    (10, "the lowest word alone has to flow", |loader| loader.start = flows_in_lowest_word),
 ];
 
 const CODE: &[Rule] = &[

@@ -1,6 +1,7 @@
 //! Loaders with one rule wrong.
 
 use crate::loader::{ascends, at_most, is_subset, subset_free, well_formed, Loader, PAPER};
+use crate::words::{flows_but_for, flows_in_lowest_word};
 use reference::opcode::*;
 
 pub struct WrongLoader {
@@ -27,13 +28,27 @@ fn wrong(check: u8, says: impl Into<String>, change: impl FnOnce(&mut Loader)) -
     WrongLoader { check, says: says.into(), loader }
 }
 
+fn low_bits(masks: &[u8], bits: u8) -> Vec<u8> {
+    masks.iter().map(|mask| mask & bits).collect()
+}
+
 /// Rules for the masks of one formula.
 const MASKS: &[(&str, fn(&[u8]) -> bool)] = &[
     ("masks are not looked at", |_| true),
-    ("mask 64 is taken", |masks| ascends(masks) && subset_free(masks) && at_most(masks, 64)),
-    ("mask 63 is too high", |masks| well_formed(masks) && at_most(masks, 62)),
+    ("mask 64 is malformed", |masks| well_formed(masks) && !masks.contains(&64)),
+    ("mask 128 is malformed", |masks| well_formed(masks) && !masks.contains(&128)),
+    ("masks above 63 are malformed", |masks| well_formed(masks) && at_most(masks, 63)),
+    ("masks above 127 are malformed", |masks| well_formed(masks) && at_most(masks, 127)),
+    ("mask 255 is malformed", |masks| well_formed(masks) && at_most(masks, 254)),
     ("mask 0 is malformed", |masks| well_formed(masks) && masks != [0]),
-    ("20 clauses are too many", |masks| well_formed(masks) && masks.len() < 20),
+    ("20 clauses are the most", |masks| well_formed(masks) && masks.len() <= 20),
+    ("70 clauses are too many", |masks| well_formed(masks) && masks.len() < 70),
+    ("six bits of a mask are looked at", |masks| well_formed(&low_bits(masks, 63))),
+    ("seven bits of a mask are looked at", |masks| well_formed(&low_bits(masks, 127))),
+    ("masks are compared as signed numbers", |masks| {
+        let signed: Vec<i8> = masks.iter().map(|&mask| mask as i8).collect();
+        well_formed(masks) && signed.is_sorted()
+    }),
     ("a mask may be there twice", |masks| {
         let mut masks = masks.to_vec();
         masks.dedup();
@@ -44,10 +59,11 @@ const MASKS: &[(&str, fn(&[u8]) -> bool)] = &[
         masks.sort();
         well_formed(&masks)
     }),
-    ("subsets are taken", |masks| ascends(masks) && at_most(masks, 63)),
+    ("subsets are taken", ascends),
+    ("subsets are looked for in six bits", |masks| ascends(masks) && subset_free(&low_bits(masks, 63))),
     ("subsets are looked for among neighbours", |masks| {
         let apart = masks.windows(2).all(|two| !is_subset(two[0], two[1]));
-        ascends(masks) && apart && at_most(masks, 63)
+        ascends(masks) && apart
     }),
     ("False may have other clauses", |masks| well_formed(masks.strip_prefix(&[0]).unwrap_or(masks))),
 ];
@@ -108,16 +124,21 @@ const RULES: &[(u8, &str, fn(&mut Loader))] = &[
         loader.start = |start, clearance| clearance.flows_to(start)
     }),
     (5, "secrecy alone is looked at", |loader| {
-        loader.start = |start, clearance| clearance.secrecy & !start.secrecy == 0
+        loader.start = |start, clearance| clearance.secrecy.implies(start.secrecy)
     }),
     (5, "integrity alone is looked at", |loader| {
-        loader.start = |start, clearance| start.integrity & !clearance.integrity == 0
+        loader.start = |start, clearance| start.integrity.implies(clearance.integrity)
     }),
     (5, "integrity is looked at in secrecy's direction", |loader| {
         loader.start = |start, clearance| {
-            clearance.secrecy & !start.secrecy == 0 && clearance.integrity & !start.integrity == 0
+            clearance.secrecy.implies(start.secrecy) && clearance.integrity.implies(start.integrity)
         }
     }),
+    (5, "word 0 is not looked at", |loader| loader.start = flows_but_for::<0>),
+    (5, "word 1 is not looked at", |loader| loader.start = flows_but_for::<1>),
+    (5, "word 2 is not looked at", |loader| loader.start = flows_but_for::<2>),
+    (5, "word 3 is not looked at", |loader| loader.start = flows_but_for::<3>),
+    (5, "the lowest word alone is looked at", |loader| loader.start = flows_in_lowest_word),
     (5, "check 6 before check 5", |loader| loader.order.swap(4, 5)),
     (6, "kind 2 is taken", |loader| loader.kind = |kind| kind <= 2),
     (6, "kind 1 is not taken", |loader| loader.kind = |kind| kind == 0),

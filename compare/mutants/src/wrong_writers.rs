@@ -1,5 +1,6 @@
-//! Writers with one rule wrong: of all bytes of a number, of one byte of it alone, or of
-//! the digits. What they write is made from the right view, so that none of them leaks.
+//! Writers with one rule wrong: of the words of a table or a number, of all bytes of a word
+//! or number, of one byte of it alone, or of the digits. What they write is made from the
+//! right view, so that none of them leaks.
 
 use crate::writer::{Cut, Writer, PAPER};
 
@@ -11,7 +12,7 @@ pub struct WrongWriter {
 }
 
 pub fn all() -> Vec<WrongWriter> {
-    let mut all: Vec<WrongWriter> = [WORDS, SHORTS, DIGITS]
+    let mut all: Vec<WrongWriter> = [TABLES, NUMBERS, FIELDS, WORDS, SHORTS, DIGITS]
         .concat()
         .into_iter()
         .map(|(name, says, change)| wrong(name, says, change))
@@ -57,6 +58,54 @@ fn seven_bits(cut: &mut Cut) {
 }
 
 type Rule = (&'static str, &'static str, fn(&mut Writer));
+
+const TABLES: &[Rule] = &[
+    ("TableTurned", "the highest word of a table is the first", |writer| {
+        writer.table = |[a, b, c, d]| [d, c, b, a]
+    }),
+    ("TablePairsTurned", "of each two words of a table the higher is the first", |writer| {
+        writer.table = |[a, b, c, d]| [b, a, d, c]
+    }),
+    ("TableHalvesTurned", "the two higher words of a table are the first", |writer| {
+        writer.table = |[a, b, c, d]| [c, d, a, b]
+    }),
+    ("TableMiddleTurned", "the two middle words of a table are taken for one another", |writer| {
+        writer.table = |[a, b, c, d]| [a, c, b, d]
+    }),
+    ("TableLowest", "all words of a table but the lowest are 0", |writer| {
+        writer.table = |[a, _, _, _]| [a, 0, 0, 0]
+    }),
+    ("TableLowestOnly", "all words of a table are the lowest", |writer| writer.table = |[a, _, _, _]| [a; 4]),
+    ("Table0Zero", "word 0 of a table is 0", |writer| writer.table = |[_, b, c, d]| [0, b, c, d]),
+    ("Table1Zero", "word 1 of a table is 0", |writer| writer.table = |[a, _, c, d]| [a, 0, c, d]),
+    ("Table2Zero", "word 2 of a table is 0", |writer| writer.table = |[a, b, _, d]| [a, b, 0, d]),
+    ("Table3Zero", "word 3 of a table is 0", |writer| writer.table = |[a, b, c, _]| [a, b, c, 0]),
+    ("Table1Before", "word 1 of a table is word 0", |writer| writer.table = |[a, _, c, d]| [a, a, c, d]),
+    ("Table2Before", "word 2 of a table is word 1", |writer| writer.table = |[a, b, _, d]| [a, b, b, d]),
+    ("Table3Before", "word 3 of a table is word 2", |writer| writer.table = |[a, b, c, _]| [a, b, c, c]),
+    ("FieldsTurned", "the highest word of a table and of a number is the first", |writer| {
+        writer.table = |[a, b, c, d]| [d, c, b, a];
+        writer.number = |number| [0, 0, 0, number];
+    }),
+];
+
+const NUMBERS: &[Rule] = &[
+    ("NumberFourTimes", "a number stands in all four words", |writer| writer.number = |number| [number; 4]),
+    ("NumberHighest", "a number stands in the highest word", |writer| {
+        writer.number = |number| [0, 0, 0, number]
+    }),
+    ("NumberTwice", "a number stands in the two lowest words", |writer| {
+        writer.number = |number| [number, number, 0, 0]
+    }),
+    ("NumberUnderOnes", "all bits above a number's word are 1", |writer| {
+        writer.number = |number| [number, u64::MAX, u64::MAX, u64::MAX]
+    }),
+];
+
+const FIELDS: &[Rule] = &[
+    ("WordsParted", "each 8 bytes print as one field", |writer| writer.parts = |at| at > 0 && at % 8 == 0),
+    ("HalvesParted", "each 16 bytes print as one field", |writer| writer.parts = |at| at > 0 && at % 16 == 0),
+];
 
 const WORDS: &[Rule] = &[
     ("WordHigher", "all bytes of a word have a shift of 8 too many, and the last is 0", |writer| {

@@ -15,13 +15,9 @@ use reference::day::Day;
 use reference::limits::MAX_DAY;
 use reference::rules::Paper;
 
-/// Mutants that need something that no generated day has: views of more than
-/// 65,535 bytes.
-const BY_HAND_ONLY: &[DayMutant] = &[DayMutant::SumWraps];
-
 #[test]
 fn generated_pairs_find_every_mutant() {
-    for &mutant in DAY_MUTANTS.iter().filter(|mutant| !BY_HAND_ONLY.contains(mutant)) {
+    for &mutant in DAY_MUTANTS {
         let needed = pairs_needed(mutant, mutants::MOST_DAY_PAIRS);
         assert!(needed.is_some(), "{mutant:?} passes for the original");
     }
@@ -49,15 +45,16 @@ fn hand_worked_days_find_leaks_too() {
     }
 }
 
-/// Jobs run on the plain file's machine; which half failed, and what a caught fault gives
-/// back, is seen in days as well.
+/// Jobs run on the plain file's machine; which half failed, what a caught fault gives back,
+/// and what hangs on one word of a table is seen in days as well.
 #[test]
-fn hand_worked_days_find_every_wrong_half_and_clearance() {
+fn hand_worked_days_find_every_wrong_half_clearance_and_word() {
     let cases = days::all();
     let at = |mutant| MUTANTS.iter().position(|&one| one == mutant).expect("a mutant of the list");
     let halves = &MUTANTS[at(Mutant::HalvesSwapped)..=at(Mutant::SealedSilent)];
     let clearances = &MUTANTS[at(Mutant::TryLabel)..=at(Mutant::UncaughtBody)];
-    for &mutant in halves.iter().chain(clearances) {
+    let words = &MUTANTS[at(Mutant::Word0Unlooked)..=at(Mutant::OldRecordsApart)];
+    for &mutant in [halves, clearances, words].concat().iter() {
         let told = |case: &days::DayCase| {
             let labels = Day::parse(&case.file).map_or(0, |day| day.parts.labels().len());
             (0..labels).any(|reader| {

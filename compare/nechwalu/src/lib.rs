@@ -3,7 +3,7 @@
 //! A *file* holds a script, some input records, and labels that say who may know
 //! and who vouches for what. [`read`] runs the script under information-flow
 //! control and writes a *view*: the result and the records, as far as the label
-//! that you read with allows, in a fixed binary layout of 62 bytes and 36 for
+//! that you read with allows, in a fixed binary layout of 206 bytes and 132 for
 //! each record shown. Whatever the script does, a view does not depend on
 //! numbers of input records that its label may not see. That is proved of the
 //! library behind this crate, not only tested.
@@ -19,10 +19,10 @@
 #![cfg(feature = "proved")]
 
 /// The length of a view without records; any answer below it is a refusal.
-const SHORTEST_VIEW: usize = 62;
+const SHORTEST_VIEW: usize = 206;
 
 /// A buffer of this length is long enough for every view.
-pub const LONGEST_VIEW: usize = SHORTEST_VIEW + 36 * 256;
+pub const LONGEST_VIEW: usize = SHORTEST_VIEW + 132 * 256;
 
 /// A buffer of this length is long enough for the views of every day.
 pub const LONGEST_DAY: usize = 16 * LONGEST_VIEW;
@@ -107,7 +107,7 @@ pub fn read(file: &[u8], reader: usize, buffer: &mut [u8]) -> Result<usize, u8> 
 ///
 /// Each caller's jobs that run may declare as many steps together as the header says,
 /// whatever other callers' jobs do. A job that declares more than its caller has left is
-/// skipped: its view is 62 bytes, with ending 4 and the two length fields, and the rest
+/// skipped: its view is 206 bytes, with ending 4 and the two length fields, and the rest
 /// is 0.
 ///
 /// # Errors
@@ -146,8 +146,8 @@ pub fn read(file: &[u8], reader: usize, buffer: &mut [u8]) -> Result<usize, u8> 
 ///
 /// let mut buffer = vec![0; nechwalu::LONGEST_DAY];
 /// let length = nechwalu::read_day(&file, 0, &mut buffer).expect("a valid day");
-/// assert_eq!(length, 62 + 62 + 62);
-/// let views: Vec<&[u8]> = buffer[..length].chunks(62).collect();
+/// assert_eq!(length, 206 + 206 + 206);
+/// let views: Vec<&[u8]> = buffer[..length].chunks(206).collect();
 /// assert_eq!((views[0][0], views[0][14]), (1, 5)); // ended with a result, 5
 /// assert_eq!(views[1][0], 4); // skipped: caller 4 had 4 steps left
 /// assert_eq!((views[2][0], views[2][14]), (1, 5)); // caller 1 had all of its own

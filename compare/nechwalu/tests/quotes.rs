@@ -55,7 +55,7 @@ fn refusals() {
     assert_eq!(with(0, 1), 2);
     assert_eq!(with(12, 0), 2);
     assert_eq!(with(2, 17), 3);
-    assert_eq!(with(20, 64), 4);
+    assert_eq!(with(18, 2), 4);
     assert_eq!(with(21, 2), 6);
     assert_eq!(with(28, 0x05), 7);
     let mut above = right.clone();

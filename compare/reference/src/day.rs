@@ -23,7 +23,7 @@ impl<'a> Day<'a> {
 
     /// [`Day::parse`] by other rules than the paper's.
     pub fn parse_by<R: DayRules>(rules: &R, bytes: &'a [u8]) -> Result<Day<'a>, Refusal> {
-        let day = Day::parse_parts(bytes)?;
+        let day = Day::parse_parts_by(rules, bytes)?;
         day.check_jobs()?;
         day.parts.check_records()?;
         let (labels, records) = (day.parts.labels().len(), day.parts.record_count());
@@ -39,6 +39,10 @@ impl<'a> Day<'a> {
 
     /// Checks 1 to 4: what has to hold before a record's label can be looked up.
     pub fn parse_parts(bytes: &'a [u8]) -> Result<Day<'a>, Refusal> {
+        Day::parse_parts_by(&Paper, bytes)
+    }
+
+    fn parse_parts_by<R: DayRules>(rules: &R, bytes: &'a [u8]) -> Result<Day<'a>, Refusal> {
         if bytes.len() < day_header::LENGTH || bytes.len() > MAX_FILE {
             return Err(Refusal::Size);
         }
@@ -53,7 +57,7 @@ impl<'a> Day<'a> {
         }
         let steps = *bytes[day_header::STEPS..].first_chunk().expect("the header is whole");
         Ok(Day {
-            parts: sections.parts(bytes)?,
+            parts: sections.parts(rules, bytes)?,
             steps: u32::from_le_bytes(steps),
             jobs: &bytes[jobs_at..jobs_at + jobs_length],
         })

@@ -64,6 +64,11 @@ pub trait DayRules: Rules {
         [SKIPPED, 0, 0, 0, view::RECORDS as u16, view::RECORDS as u16]
     }
 
+    /// How many bytes a skipped job's view has.
+    fn skipped_length(&self) -> usize {
+        view::RECORDS
+    }
+
     /// Check 9: what the buffer must be long enough for.
     fn needed(&self, lengths: &[usize]) -> usize {
         lengths.iter().sum()

@@ -3,6 +3,7 @@
 use crate::limits::{header, MAX_FILE};
 use crate::opcode::{self, Starts};
 use crate::parts::{places, short, steps_hold, Job, Parts, Refusal, Sections};
+use crate::rules::{Paper, Rules};
 
 /// A file whose header and labels are in order.
 #[derive(Clone, Debug)]
@@ -14,12 +15,17 @@ pub struct File<'a> {
 impl<'a> File<'a> {
     /// Checks 1 to 7.
     pub fn parse(bytes: &'a [u8]) -> Result<File<'a>, Refusal> {
-        File::parse_with_starts(bytes).map(|(file, _)| file)
+        File::parse_by(&Paper, bytes)
     }
 
-    /// [`File::parse`], and where the instructions start, which check 7 finds.
-    pub fn parse_with_starts(bytes: &'a [u8]) -> Result<(File<'a>, Starts), Refusal> {
-        let file = File::parse_parts(bytes)?;
+    /// [`File::parse`] by other rules than the paper's.
+    pub fn parse_by<R: Rules>(rules: &R, bytes: &'a [u8]) -> Result<File<'a>, Refusal> {
+        File::parse_with_starts(rules, bytes).map(|(file, _)| file)
+    }
+
+    /// [`File::parse_by`], and where the instructions start, which check 7 finds.
+    pub fn parse_with_starts<R: Rules>(rules: &R, bytes: &'a [u8]) -> Result<(File<'a>, Starts), Refusal> {
+        let file = File::parse_parts_by(rules, bytes)?;
         let File { parts, job } = &file;
         if !job.label.flows_to(job.clearance) {
             return Err(Refusal::Start);
@@ -31,6 +37,10 @@ impl<'a> File<'a> {
 
     /// Checks 1 to 4: what has to hold before a record's label can be looked up.
     pub fn parse_parts(bytes: &'a [u8]) -> Result<File<'a>, Refusal> {
+        File::parse_parts_by(&Paper, bytes)
+    }
+
+    fn parse_parts_by<R: Rules>(rules: &R, bytes: &'a [u8]) -> Result<File<'a>, Refusal> {
         if bytes.len() < header::LENGTH || bytes.len() > MAX_FILE {
             return Err(Refusal::Size);
         }
@@ -45,7 +55,7 @@ impl<'a> File<'a> {
         if !sections.layout_holds(0, bytes.len()) {
             return Err(Refusal::Layout);
         }
-        let parts = sections.parts(bytes)?;
+        let parts = sections.parts(rules, bytes)?;
         let (label, clearance) = (parts.labels()[0], parts.labels()[1]);
         let job = Job { caller: 0, label, clearance, steps, places: allotted, code: parts.code, start: 0 };
         Ok(File { parts, job })

@@ -3,7 +3,6 @@
 use crate::day::Day;
 use crate::day_rules::DayRules;
 use crate::label::Label;
-use crate::limits::view;
 use crate::machine::{self, Finished};
 use crate::parts::{Job, Refusal};
 use crate::run::Run;
@@ -59,7 +58,7 @@ pub fn views<R: DayRules>(day: &Day, outcomes: &[Outcome], reader: Label, rules:
             let numbers = rules.skipped_numbers(job, inputs, reader);
             let mut view: Vec<u8> =
                 numbers.into_iter().flat_map(|number| rules.short_bytes(number)).collect();
-            view.resize(view::RECORDS, 0);
+            view.resize(rules.skipped_length(), 0);
             view
         }
     };

@@ -22,6 +22,7 @@ pub mod rules;
 pub mod run;
 pub mod script;
 pub mod store;
+pub mod table;
 pub mod value;
 pub mod view;
 
@@ -42,7 +43,7 @@ pub fn read(file: &[u8], reader: usize, buffer: &mut [u8]) -> Result<usize, u8> 
 
 /// [`read`] by other rules than the paper's.
 pub fn read_by<R: Rules>(rules: &R, file: &[u8], reader: usize, buffer: &mut [u8]) -> Result<usize, Refusal> {
-    let file = File::parse(file)?;
+    let file = File::parse_by(rules, file)?;
     let &reader = file.parts.labels().get(reader).ok_or(Refusal::Reader)?;
     let finished = machine::run(&file, rules);
     view::write(&finished, reader, buffer, rules)

@@ -2,11 +2,27 @@
 
 use std::ops::RangeInclusive;
 
-/// Principals are numbered 0 to 5, so a clause mask has six bits.
-pub const PRINCIPALS: usize = 6;
-pub const HIGHEST_MASK: u8 = 63;
-/// The most clauses none of which is a subset of another: all masks of three bits.
-pub const MAX_CLAUSES: usize = 20;
+/// Principals are numbered from 0: player, dealer, bench, archive, record company, guest,
+/// hirer, repair desk. Before the last two came there were six, as there still are with the
+/// feature `six`. Every width below follows from this number.
+pub const PRINCIPALS: usize = if cfg!(feature = "six") { 6 } else { 8 };
+/// How many sets of principals there are: a mask has a bit for each principal.
+pub const MASKS: usize = 1 << PRINCIPALS;
+/// The 64-bit words of a table, which has a bit for each set.
+pub const WORDS: usize = MASKS / 64;
+/// The most clauses none of which is a subset of another: all masks with half of the bits.
+pub const MAX_CLAUSES: usize = masks_with(PRINCIPALS / 2);
+
+const fn masks_with(bits: usize) -> usize {
+    let (mut mask, mut count) = (0, 0);
+    while mask < MASKS {
+        if mask.count_ones() as usize == bits {
+            count += 1;
+        }
+        mask += 1;
+    }
+    count
+}
 
 pub const MAX_LABELS: usize = 32;
 pub const LABELS: RangeInclusive<usize> = 2..=MAX_LABELS;
@@ -79,6 +95,19 @@ pub mod input {
     pub const LENGTH: usize = 6;
 }
 
+/// Bytes of a table in a view, and of what stands where a value may have one.
+pub const TABLE: usize = 8 * WORDS;
+/// Bytes of a label in a view: its two tables.
+pub const LABEL: usize = 2 * TABLE;
+
+/// Byte offsets within a value of a view.
+pub mod value {
+    pub const KIND: usize = 0;
+    pub const FIRST: usize = 2;
+    pub const SECOND: usize = FIRST + super::TABLE;
+    pub const LENGTH: usize = SECOND + super::TABLE;
+}
+
 /// Byte offsets within a view.
 pub mod view {
     pub const ENDING: usize = 0;
@@ -88,9 +117,9 @@ pub mod view {
     pub const RECORDS_AT: usize = 8;
     pub const LENGTH: usize = 10;
     pub const RESULT: usize = 12;
-    pub const LABEL: usize = 30;
-    pub const CLEARANCE: usize = 46;
-    pub const RECORDS: usize = 62;
+    pub const LABEL: usize = RESULT + super::value::LENGTH;
+    pub const CLEARANCE: usize = LABEL + super::LABEL;
+    pub const RECORDS: usize = CLEARANCE + super::LABEL;
 }
 
 /// Byte offsets within one record of a view.
@@ -98,8 +127,8 @@ pub mod shown {
     pub const PLACE: usize = 0;
     pub const KIND: usize = 1;
     pub const LABEL: usize = 2;
-    pub const VALUE: usize = 18;
-    pub const LENGTH: usize = 36;
+    pub const VALUE: usize = LABEL + super::LABEL;
+    pub const LENGTH: usize = VALUE + super::value::LENGTH;
 }
 
 /// The longest view: every place holds a record and every record is shown.

@@ -1,8 +1,10 @@
 //! What plain files and days have in common: labels, input records, code, and
 //! scripts with what they are given to run.
 
-use crate::label::{formula, Label};
+use crate::label::Label;
 use crate::limits::{input, CODE_BYTES, LABELS, MAX_LABELS, MAX_PLACES, MAX_RECORDS};
+use crate::rules::Rules;
+use crate::table::formula_by;
 use crate::value::{Content, Kind, Record, Value};
 use std::ops::RangeInclusive;
 
@@ -95,10 +97,10 @@ impl Sections {
     }
 
     /// Check 4, after check 3.
-    pub fn parts<'a>(&self, bytes: &'a [u8]) -> Result<Parts<'a>, Refusal> {
+    pub fn parts<'a, R: Rules>(&self, rules: &R, bytes: &'a [u8]) -> Result<Parts<'a>, Refusal> {
         let labels = &bytes[self.header_length..self.records_at];
         Ok(Parts {
-            labels: parse_labels(labels, self.label_count).ok_or(Refusal::Labels)?,
+            labels: parse_labels(rules, labels, self.label_count).ok_or(Refusal::Labels)?,
             label_count: self.label_count,
             records: &bytes[self.records_at..self.records_end()],
             code: &bytes[self.code_at..],
@@ -147,7 +149,8 @@ impl Parts<'_> {
 }
 
 /// Reads `count` label entries that fill `bytes` exactly.
-fn parse_labels(mut bytes: &[u8], count: usize) -> Option<[Label; MAX_LABELS]> {
+fn parse_labels<R: Rules>(rules: &R, mut bytes: &[u8], count: usize) -> Option<[Label; MAX_LABELS]> {
+    let formula = |masks| formula_by(|mask| rules.clause(mask), masks);
     let mut labels = [Label::PUBLIC; MAX_LABELS];
     for label in &mut labels[..count] {
         let (&[secrecy, integrity], rest) = bytes.split_first_chunk()?;

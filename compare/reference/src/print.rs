@@ -4,15 +4,15 @@
 use crate::day::Day;
 use crate::day_rules::DayRules;
 use crate::file::File;
-use crate::limits::{shown, view, MAX_VIEW};
+use crate::limits::{shown, view, MAX_VIEW, TABLE};
 use crate::parts::Refusal;
 use crate::rules::{Paper, Rules};
 use crate::{jobs, machine, quote, view as views};
 
 /// Bytes of each field in the front of a view, in order.
-const FRONT: [usize; 13] = [2, 2, 2, 2, 2, 2, 2, 8, 8, 8, 8, 8, 8];
+const FRONT: [usize; 13] = [2, 2, 2, 2, 2, 2, 2, TABLE, TABLE, TABLE, TABLE, TABLE, TABLE];
 /// Bytes of each field in a record of a view, in order.
-const RECORD: [usize; 7] = [1, 1, 8, 8, 2, 8, 8];
+const RECORD: [usize; 7] = [1, 1, TABLE, TABLE, 2, TABLE, TABLE];
 
 /// A buffer of this length is long enough for the line of every view.
 pub const MAX_LINE: usize = line_length(MAX_VIEW);
@@ -24,7 +24,7 @@ pub fn lines(bytes: &[u8]) -> String {
 
 /// [`lines`] by other rules than the paper's.
 pub fn lines_by<R: Rules>(rules: &R, bytes: &[u8]) -> String {
-    let file = match File::parse(bytes) {
+    let file = match File::parse_by(rules, bytes) {
         Ok(file) => file,
         Err(refusal) => return refused(refusal),
     };
@@ -112,8 +112,13 @@ fn put_fields<R: Rules>(rules: &R, mut bytes: &[u8], widths: &[usize], put: &mut
         if at > 0 {
             put(' ');
         }
-        for &byte in field {
-            rules.digits(byte).into_iter().for_each(&mut *put);
+        for (at, &byte) in field.iter().enumerate() {
+            if rules.parts_field(at) {
+                put(' ');
+            }
+            let [high, low] = rules.digits(byte);
+            put(high);
+            put(low);
         }
         bytes = rest;
     }

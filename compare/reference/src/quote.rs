@@ -4,6 +4,7 @@
 use crate::file::File;
 use crate::opcode::*;
 use crate::parts::{short, Refusal};
+use crate::rules::Paper;
 use std::fmt;
 
 /// The largest steps and the largest places along any path, each by itself: the two
@@ -34,7 +35,7 @@ impl fmt::Display for Quote {
 
 /// Checks 1 to 7 and 11, and the quote of the file's code.
 pub fn of_file(bytes: &[u8]) -> Result<Quote, Refusal> {
-    let (file, starts) = File::parse_with_starts(bytes)?;
+    let (file, starts) = File::parse_with_starts(&Paper, bytes)?;
     let code = file.parts.code;
     // By start, the quote of the paths from there on.
     let mut from = vec![Quote::default(); code.len()];

@@ -7,10 +7,11 @@
 //! see whether the difference shows.
 
 use crate::label::Label;
-use crate::limits::NESTED_BLOCKS;
+use crate::limits::{shown, view, NESTED_BLOCKS, WORDS};
 use crate::opcode::OPEN;
 use crate::run::{Frame, Run};
 use crate::store::Store;
+use crate::table::{self, Table};
 use crate::value::{Content, Ending, Fault};
 
 /// The paper's rules.
@@ -54,6 +55,15 @@ pub enum Field {
     Clearance,
 }
 
+/// What a table in a view is a part of.
+#[derive(Clone, Copy, Debug, PartialEq, Eq)]
+pub enum TableOf {
+    Value,
+    RunLabel,
+    Clearance,
+    RecordLabel,
+}
+
 /// `fault` with the flow test's answer, unless that is 0.
 #[inline]
 pub fn unless_flows(answer: u32, fault: impl Fn(u32) -> Fault) -> Result<(), Fault> {
@@ -65,6 +75,12 @@ pub fn unless_flows(answer: u32, fault: impl Fn(u32) -> Fault) -> Result<(), Fau
 }
 
 pub trait Rules {
+    /// The table of a clause.
+    #[inline]
+    fn clause(&self, mask: u8) -> Table {
+        table::clause(mask)
+    }
+
     /// The flow test: 0, or which half failed.
     #[inline]
     fn flow_test(&self, from: Label, to: Label) -> u32 {
@@ -207,10 +223,43 @@ pub trait Rules {
         shown
     }
 
-    /// Whether the view has 0 for `field` where the final label is hidden.
+    /// Puts in place of `field` what the view has where the final label is hidden: 0.
     #[inline]
-    fn blanks(&self, _field: Field) -> bool {
-        true
+    fn blank(&self, _field: Field, bytes: &mut [u8]) {
+        bytes.fill(0);
+    }
+
+    /// The view's fifth number: where its records start.
+    #[inline]
+    fn records_at(&self) -> usize {
+        view::RECORDS
+    }
+
+    /// The view's sixth number: its length, with so many records shown.
+    #[inline]
+    fn length(&self, shown: usize) -> usize {
+        view::RECORDS + shown::LENGTH * shown
+    }
+
+    /// Where behind the first record that is shown the one with this index starts.
+    #[inline]
+    fn record_at(&self, index: usize) -> usize {
+        shown::LENGTH * index
+    }
+
+    /// The words of a table in the order that the view has them in.
+    #[inline]
+    fn table_words(&self, _of: TableOf, table: Table) -> [u64; WORDS] {
+        table.0
+    }
+
+    /// The words of a number, a place or a fault's code: as many as a table has, and 0
+    /// above the number.
+    #[inline]
+    fn number_words(&self, number: u32) -> [u64; WORDS] {
+        let mut words = [0; WORDS];
+        words[0] = number.into();
+        words
     }
 
     /// How the view has one of its 16-bit numbers.
@@ -223,6 +272,12 @@ pub trait Rules {
     #[inline]
     fn word_bytes(&self, word: u64) -> [u8; 8] {
         word.to_le_bytes()
+    }
+
+    /// Whether a line has a space before this byte of a field.
+    #[inline]
+    fn parts_field(&self, _at: usize) -> bool {
+        false
     }
 
     /// How a line has a byte of the view.

@@ -1,10 +1,10 @@
 //! The view: what a reading label is shown of a finished run.
 
 use crate::label::Label;
-use crate::limits::{shown, view};
+use crate::limits::{shown, value, view, LABEL, TABLE, WORDS};
 use crate::machine::Finished;
 use crate::parts::Refusal;
-use crate::rules::{Field, Rules};
+use crate::rules::{Field, Rules, TableOf};
 use crate::value::{Content, Ending, Record, Value};
 
 /// Writes the view into the front of `buffer` and gives its length. A buffer
@@ -53,69 +53,83 @@ impl Count {
 
 /// Writes every byte of `view`, which has the view's length.
 fn fill<R: Rules>(finished: &Finished, count: Count, reader: Label, view: &mut [u8], rules: &R) {
-    let length = view.len();
-    let shows = |record: &Record| rules.shows(record.label, finished.label, reader);
     let (head, records) = view.split_at_mut(view::RECORDS);
     write_run(finished, reader, head, rules);
     put(head, view::SHOWN, &rules.short_bytes(rules.counted(count.shown, count.all) as u16));
-    put(head, view::RECORDS_AT, &rules.short_bytes(view::RECORDS as u16));
-    put(head, view::LENGTH, &rules.short_bytes(length as u16));
+    put(head, view::RECORDS_AT, &rules.short_bytes(rules.records_at() as u16));
+    put(head, view::LENGTH, &rules.short_bytes(rules.length(count.shown) as u16));
+    let shows = |record: &Record| rules.shows(record.label, finished.label, reader);
     let shown_records = finished.store.iter().filter(|(_, record)| shows(record));
-    for (part, (place, record)) in records.chunks_exact_mut(shown::LENGTH).zip(shown_records) {
+    for (index, (place, record)) in shown_records.enumerate() {
+        let part = &mut records[rules.record_at(index)..][..shown::LENGTH];
         part[shown::PLACE] = place;
         part[shown::KIND] = record.kind as u8;
-        put(part, shown::LABEL, &label_bytes(record.label, rules));
-        put(part, shown::VALUE, &content_bytes(record.content, rules));
+        put_label(&mut part[shown::LABEL..], TableOf::RecordLabel, record.label, rules);
+        put_content(&mut part[shown::VALUE..], record.content, rules);
     }
 }
 
 /// The parts that tell of the run as a whole: 0 unless its final label flows to
 /// the reader.
 fn write_run<R: Rules>(finished: &Finished, reader: Label, head: &mut [u8], rules: &R) {
-    let hidden = !rules.flows(finished.label, reader);
     let (ending, result) = match finished.ending {
-        Ending::Result(value) => (1, content_bytes(Content::Value(value), rules)),
-        Ending::Fault(fault) => (2, content_bytes(Content::Fault(fault), rules)),
-        Ending::Spent => (3, [0; VALUE_LENGTH]),
+        Ending::Result(value) => (1, Some(Content::Value(value))),
+        Ending::Fault(fault) => (2, Some(Content::Fault(fault))),
+        Ending::Spent => (3, None),
     };
-    let mut part = |field: Field, at: usize, bytes: &[u8]| {
-        if hidden && rules.blanks(field) {
-            head[at..at + bytes.len()].fill(0);
-        } else {
-            put(head, at, bytes);
+    match result {
+        Some(content) => put_content(&mut head[view::RESULT..], content, rules),
+        None => head[view::RESULT..view::LABEL].fill(0),
+    }
+    put(head, view::ENDING, &rules.short_bytes(ending));
+    put(head, view::STEPS, &rules.short_bytes(finished.steps_used));
+    put(head, view::NEXT_PLACE, &rules.short_bytes(finished.next_place));
+    put_label(&mut head[view::LABEL..], TableOf::RunLabel, finished.label, rules);
+    put_label(&mut head[view::CLEARANCE..], TableOf::Clearance, finished.clearance, rules);
+    if !rules.flows(finished.label, reader) {
+        for (field, at, length) in RUN {
+            rules.blank(field, &mut head[at..at + length]);
         }
-    };
-    part(Field::Ending, view::ENDING, &rules.short_bytes(ending));
-    part(Field::Steps, view::STEPS, &rules.short_bytes(finished.steps_used));
-    part(Field::NextPlace, view::NEXT_PLACE, &rules.short_bytes(finished.next_place));
-    part(Field::Result, view::RESULT, &result);
-    part(Field::Label, view::LABEL, &label_bytes(finished.label, rules));
-    part(Field::Clearance, view::CLEARANCE, &label_bytes(finished.clearance, rules));
+    }
 }
 
-const VALUE_LENGTH: usize = view::LABEL - view::RESULT;
-const LABEL_LENGTH: usize = view::CLEARANCE - view::LABEL;
+/// What tells of the run as a whole: where in the view it is, and its length.
+const RUN: [(Field, usize, usize); 6] = [
+    (Field::Ending, view::ENDING, 2),
+    (Field::Steps, view::STEPS, 2),
+    (Field::NextPlace, view::NEXT_PLACE, 2),
+    (Field::Result, view::RESULT, value::LENGTH),
+    (Field::Label, view::LABEL, LABEL),
+    (Field::Clearance, view::CLEARANCE, LABEL),
+];
 
-fn content_bytes<R: Rules>(content: Content, rules: &R) -> [u8; VALUE_LENGTH] {
+/// Writes a value or a fault into the front of `part`.
+fn put_content<R: Rules>(part: &mut [u8], content: Content, rules: &R) {
+    let number = |number| rules.number_words(number);
+    let table = |table| rules.table_words(TableOf::Value, table);
     let (kind, first, second) = match content {
-        Content::Value(Value::Number(number)) => (1, number.into(), 0),
-        Content::Value(Value::Label(label)) => (2, label.secrecy, label.integrity),
-        Content::Value(Value::Sealed(place)) => (3, place.into(), 0),
-        Content::Value(Value::Reference(place)) => (4, place.into(), 0),
-        Content::Fault(fault) => (5, fault.code.into(), fault.number.into()),
+        Content::Value(Value::Number(value)) => (1, number(value), [0; WORDS]),
+        Content::Value(Value::Label(label)) => (2, table(label.secrecy), table(label.integrity)),
+        Content::Value(Value::Sealed(place)) => (3, number(place.into()), [0; WORDS]),
+        Content::Value(Value::Reference(place)) => (4, number(place.into()), [0; WORDS]),
+        Content::Fault(fault) => (5, number(fault.code.into()), number(fault.number)),
     };
-    let mut bytes = [0; VALUE_LENGTH];
-    bytes[0] = kind;
-    put(&mut bytes, 2, &rules.word_bytes(first));
-    put(&mut bytes, 10, &rules.word_bytes(second));
-    bytes
+    part[value::KIND] = kind;
+    part[value::KIND + 1] = 0;
+    put_words(&mut part[value::FIRST..], first, rules);
+    put_words(&mut part[value::SECOND..], second, rules);
 }
 
-fn label_bytes<R: Rules>(label: Label, rules: &R) -> [u8; LABEL_LENGTH] {
-    let mut bytes = [0; LABEL_LENGTH];
-    put(&mut bytes, 0, &rules.word_bytes(label.secrecy));
-    put(&mut bytes, 8, &rules.word_bytes(label.integrity));
-    bytes
+/// Writes a label into the front of `part`, its secrecy first.
+fn put_label<R: Rules>(part: &mut [u8], of: TableOf, label: Label, rules: &R) {
+    put_words(part, rules.table_words(of, label.secrecy), rules);
+    put_words(&mut part[TABLE..], rules.table_words(of, label.integrity), rules);
+}
+
+fn put_words<R: Rules>(part: &mut [u8], words: [u64; WORDS], rules: &R) {
+    for (part, word) in part.chunks_exact_mut(8).zip(words) {
+        part.copy_from_slice(&rules.word_bytes(word));
+    }
 }
 
 #[inline]

@@ -1,10 +1,13 @@
 //! P1 to P8, the flow test's answers, and the lists of clauses that are malformed.
 
-use reference::label::{clause, formula, Label, TRUE};
+use reference::label::Label;
+use reference::table::{clause, formula, Table};
 
 const PLAYER: u8 = 1;
 const DEALER: u8 = 2;
 const BENCH: u8 = 4;
+const HIRER: u8 = 64;
+const DESK: u8 = 128;
 
 fn label(secrecy: &[u8], integrity: &[u8]) -> Label {
     let table = |masks| formula(masks).expect("a well-formed list");
@@ -13,15 +16,45 @@ fn label(secrecy: &[u8], integrity: &[u8]) -> Label {
 
 #[test]
 fn p1_to_p5_tables() {
-    let tables: [(&[u8], u64); 5] = [
+    let words: [(&[u8], u64); 5] = [
         (&[], u64::MAX),
         (&[0x01], 0xAAAA_AAAA_AAAA_AAAA),
         (&[0x03], 0xEEEE_EEEE_EEEE_EEEE),
         (&[0x01, 0x02], 0x8888_8888_8888_8888),
         (&[0x00], 0),
     ];
-    for (masks, table) in tables {
-        assert_eq!(formula(masks), Some(table), "{masks:?}");
+    for (masks, word) in words {
+        assert_eq!(formula(masks), Some(Table([word; 4])), "{masks:?}");
+    }
+}
+
+/// The last two principals choose the word: the first without both, then with the hirer, with
+/// the desk, and with both.
+#[test]
+fn tables_of_the_last_two() {
+    let tables: [(&[u8], [u64; 4]); 5] = [
+        (&[HIRER], [0, u64::MAX, 0, u64::MAX]),
+        (&[DESK], [0, 0, u64::MAX, u64::MAX]),
+        (&[HIRER | DESK], [0, u64::MAX, u64::MAX, u64::MAX]),
+        (&[HIRER, DESK], [0, 0, 0, u64::MAX]),
+        (&[PLAYER | HIRER], [0xAAAA_AAAA_AAAA_AAAA, u64::MAX, 0xAAAA_AAAA_AAAA_AAAA, u64::MAX]),
+    ];
+    for (masks, words) in tables {
+        assert_eq!(formula(masks), Some(Table(words)), "{masks:?}");
+    }
+}
+
+/// Each of these tests fails by one word alone.
+#[test]
+fn a_flow_test_by_one_word() {
+    let formulas: [(&[u8], &[u8]); 4] =
+        [(&[HIRER | DESK], &[]), (&[DESK], &[HIRER]), (&[HIRER], &[DESK]), (&[0], &[HIRER, DESK])];
+    for (word, (conclusion, premise)) in formulas.into_iter().enumerate() {
+        let (secret, open) = (label(conclusion, &[]), label(premise, &[]));
+        assert_eq!(secret.flow_test(open), 1);
+        assert_eq!(label(&[], premise).flow_test(label(&[], conclusion)), 2);
+        let failing = |at: usize| open.secrecy.0[at] & !secret.secrecy.0[at] != 0;
+        assert_eq!((0..4).filter(|&at| failing(at)).collect::<Vec<_>>(), [word]);
     }
 }
 
@@ -53,16 +86,28 @@ fn both_halves_fail() {
 
 /// Labels that stand in every order to one another.
 fn labels() -> Vec<Label> {
-    let formulas: [&[u8]; 8] =
-        [&[], &[PLAYER], &[DEALER], &[PLAYER | DEALER], &[PLAYER, DEALER], &[BENCH], &[3, 5, 6], &[0]];
+    let formulas: [&[u8]; 12] = [
+        &[],
+        &[PLAYER],
+        &[DEALER],
+        &[PLAYER | DEALER],
+        &[PLAYER, DEALER],
+        &[BENCH],
+        &[3, 5, 6],
+        &[HIRER],
+        &[DESK],
+        &[HIRER | DESK],
+        &[PLAYER, HIRER, DESK],
+        &[0],
+    ];
     formulas.iter().flat_map(|secrecy| formulas.map(|integrity| label(secrecy, integrity))).collect()
 }
 
 /// The answer by the paper's words, one set of principals at a time.
 #[test]
 fn the_answer_set_by_set() {
-    let fails = |premise: u64, conclusion: u64| {
-        (0..64).any(|set| premise >> set & 1 == 1 && conclusion >> set & 1 == 0)
+    let fails = |premise: Table, conclusion: Table| {
+        (0..256).any(|set| premise.holds_for(set) && !conclusion.holds_for(set))
     };
     for from in labels() {
         for to in labels() {
@@ -106,24 +151,25 @@ fn meet() {
 
 #[test]
 fn a_clause_holds_for_the_sets_that_share_a_member() {
-    for mask in 0..64u8 {
-        for set in 0..64u8 {
-            assert_eq!(clause(mask) >> set & 1 == 1, mask & set != 0, "clause {mask}, set {set}");
+    for mask in 0..=255u8 {
+        for set in 0..=255u8 {
+            let word = clause(mask).0[usize::from(set) / 64];
+            assert_eq!(word >> (set % 64) & 1 == 1, mask & set != 0, "clause {mask}, set {set}");
         }
     }
 }
 
-/// All lists of up to three masks against the paper's own words.
+/// All lists of one or two masks, and some of three, against the paper's own words.
 #[test]
 fn malformed_lists() {
     let subset = |one: u8, other: u8| one & !other == 0;
-    for a in 0..=64u8 {
-        assert_eq!(formula(&[a]).is_some(), a <= 63);
-        for b in 0..=64u8 {
-            let pair = a < b && b <= 63 && !subset(a, b) && !subset(b, a);
+    for a in 0..=255u8 {
+        assert!(formula(&[a]).is_some(), "{a}");
+        for b in 0..=255u8 {
+            let pair = a < b && !subset(a, b) && !subset(b, a);
             assert_eq!(formula(&[a, b]).is_some(), pair, "{a} {b}");
-            for c in (0..=64u8).filter(|_| pair) {
-                let triple = b < c && c <= 63 && ![a, b].iter().any(|&m| subset(m, c) || subset(c, m));
+            for c in (0..=255u8).step_by(7).filter(|_| pair) {
+                let triple = b < c && ![a, b].iter().any(|&m| subset(m, c) || subset(c, m));
                 assert_eq!(formula(&[a, b, c]).is_some(), triple, "{a} {b} {c}");
             }
         }
@@ -131,10 +177,10 @@ fn malformed_lists() {
 }
 
 #[test]
-fn twenty_clauses_at_most() {
-    let mut masks: Vec<u8> = (0..64).filter(|mask: &u8| mask.count_ones() == 3).collect();
-    assert_eq!(masks.len(), 20);
-    assert!(formula(&masks).is_some_and(|table| table != TRUE));
-    masks.push(63);
+fn seventy_clauses_at_most() {
+    let mut masks: Vec<u8> = (0..=255).filter(|mask: &u8| mask.count_ones() == 4).collect();
+    assert_eq!(masks.len(), 70);
+    assert!(formula(&masks).is_some_and(|table| table != Table::TRUE));
+    masks.push(255);
     assert_eq!(formula(&masks), None);
 }

@@ -23,8 +23,13 @@ const EXAMPLE: [u8; 27] = [
     0, 0, 1, 0, 0, // labels
     1, 5, 0, 0, 0, 0, // code
 ];
-const LINE: &str = "0100 0200 0000 0000 3e00 3e00 0100 0500000000000000 0000000000000000 \
-                    ffffffffffffffff ffffffffffffffff 0000000000000000 ffffffffffffffff\n";
+const LINE: &str = "0100 0200 0000 0000 ce00 ce00 0100 \
+                    0500000000000000000000000000000000000000000000000000000000000000 \
+                    0000000000000000000000000000000000000000000000000000000000000000 \
+                    ffffffffffffffffffffffffffffffffffffffffffffffffffffffffffffffff \
+                    ffffffffffffffffffffffffffffffffffffffffffffffffffffffffffffffff \
+                    0000000000000000000000000000000000000000000000000000000000000000 \
+                    ffffffffffffffffffffffffffffffffffffffffffffffffffffffffffffffff\n";
 
 #[test]
 fn the_example_prints_its_line_twice() {
@@ -73,8 +78,13 @@ fn day() -> Vec<u8> {
     [&header[..], &EXAMPLE[16..21], &job, &job, &EXAMPLE[21..]].concat()
 }
 
-const SKIPPED: &str = "0400 0000 0000 0000 3e00 3e00 0000 0000000000000000 0000000000000000 \
-                       0000000000000000 0000000000000000 0000000000000000 0000000000000000\n";
+const SKIPPED: &str = "0400 0000 0000 0000 ce00 ce00 0000 \
+                       0000000000000000000000000000000000000000000000000000000000000000 \
+                       0000000000000000000000000000000000000000000000000000000000000000 \
+                       0000000000000000000000000000000000000000000000000000000000000000 \
+                       0000000000000000000000000000000000000000000000000000000000000000 \
+                       0000000000000000000000000000000000000000000000000000000000000000 \
+                       0000000000000000000000000000000000000000000000000000000000000000\n";
 
 #[test]
 fn a_day_prints_a_line_for_each_label_and_job() {

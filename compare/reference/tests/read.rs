@@ -22,8 +22,8 @@ fn two_records() -> Vec<u8> {
 #[test]
 fn the_view_fits_a_buffer_of_its_length_and_no_shorter_one() {
     let file = two_records();
-    for (reader, length) in [(0, 62 + 36), (1, 62 + 72)] {
-        for size in 0..MAX_VIEW {
+    for (reader, length) in [(0, 206 + 132), (1, 206 + 264)] {
+        for size in (0..1_000).chain([MAX_VIEW]) {
             let mut buffer = vec![0xEE; size];
             let answer = read(&file, reader, &mut buffer);
             if size < length {
@@ -96,16 +96,16 @@ fn a_hidden_final_label() {
     }
     .bytes();
     let mut buffer = [0xEE; MAX_VIEW];
-    assert_eq!(read(&file, 0, &mut buffer), Ok(98));
-    let mut expected = [0; 98];
+    assert_eq!(read(&file, 0, &mut buffer), Ok(338));
+    let mut expected = [0; 338];
     expected[6] = 1;
-    expected[8] = 62;
-    expected[10] = 98;
-    expected[62..64].copy_from_slice(&[1, 1]);
-    expected[64..80].fill(0xFF);
-    expected[80] = 1;
-    expected[82] = 8;
-    assert_eq!(buffer[..98], expected);
+    expected[8] = 206;
+    expected[10..12].copy_from_slice(&338u16.to_le_bytes());
+    expected[206..208].copy_from_slice(&[1, 1]);
+    expected[208..272].fill(0xFF);
+    expected[272] = 1;
+    expected[274] = 8;
+    assert_eq!(buffer[..338], expected);
 }
 
 #[test]

@@ -1,6 +1,7 @@
 //! Refusals 1 to 4 and 6 of a day. For 7 see the code, for 10 the jobs.
 
 use super::{day, ends, five, number, of, refused, refused_bytes, DayCase};
+use crate::bounds::seventy_clauses;
 use reference::limits::day_header::*;
 use reference::limits::{input, MAX_CODE};
 use reference::script::{Clauses, Input};
@@ -148,8 +149,9 @@ fn labels() -> Vec<DayCase> {
         refused(name, 4, &day)
     };
     vec![
-        entries("a day's mask of 64", Clauses::new(&[64], &[])),
-        entries("a day's integrity mask of 64", Clauses::new(&[], &[64])),
+        entries("a day's clauses 40, C0", Clauses::new(&[64, 192], &[])),
+        entries("a day's integrity clauses 80, 40", Clauses::new(&[], &[128, 64])),
+        entries("a day's 71 clauses", Clauses::new(&[&seventy_clauses()[..], &[255]].concat(), &[])),
         entries("a day's clauses 01, 03", Clauses::new(&[1, 3], &[])),
         patched("a day's labels: one more than there is", 4, &[(LABEL_COUNT, 7)]),
         patched("a day's labels: one fewer than there are", 4, &[(LABEL_COUNT, 5)]),

@@ -38,7 +38,7 @@ fn of_the_header() -> Vec<DayCase> {
 
 /// What is wrong with a day for one reason alone.
 fn bad_labels(day: &mut DayScript) {
-    day.labels[5] = Clauses::new(&[], &[64]);
+    day.labels[5] = Clauses::new(&[], &[64, 64]);
 }
 
 fn bad_field(day: &mut DayScript) {

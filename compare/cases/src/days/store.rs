@@ -6,9 +6,10 @@ use super::{
 };
 use crate::label;
 use crate::record::*;
-use reference::label::{Label, TRUE};
+use reference::label::Label;
 use reference::opcode::*;
 use reference::script::Code;
+use reference::table::Table;
 use reference::value::{Ending, Fault, Value};
 
 pub fn cases() -> Vec<DayCase> {
@@ -34,7 +35,7 @@ fn add_one(code: &mut Code) {
 
 /// What is left in a reference is there for all later jobs.
 fn contents() -> Vec<DayCase> {
-    let player = Value::Label(Label { secrecy: 0xAAAA_AAAA_AAAA_AAAA, integrity: TRUE });
+    let player = Value::Label(Label { secrecy: Table([0xAAAA_AAAA_AAAA_AAAA; 4]), integrity: Table::TRUE });
     let passes = |name: &str, value, write: fn(&mut Code)| {
         let mut day = day();
         add(&mut day, |code| {
@@ -171,8 +172,8 @@ fn own_labels() -> DayCase {
     for job in &mut own.jobs {
         (job.label, job.clearance) = (label::VOUCHED, label::DEALER);
     }
-    let vouched = Value::Label(Label { secrecy: TRUE, integrity: 0xF0F0_F0F0_F0F0_F0F0 });
-    let dealer = Value::Label(Label { secrecy: 0xCCCC_CCCC_CCCC_CCCC, integrity: TRUE });
+    let vouched = Value::Label(Label { secrecy: Table::TRUE, integrity: Table([0xF0F0_F0F0_F0F0_F0F0; 4]) });
+    let dealer = Value::Label(Label { secrecy: Table([0xCCCC_CCCC_CCCC_CCCC; 4]), integrity: Table::TRUE });
     ends("a job's own label and clearance", &[gives(vouched), gives(dealer)], &own)
 }
 

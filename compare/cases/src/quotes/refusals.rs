@@ -79,7 +79,7 @@ fn layouts() -> Vec<QuoteCase> {
 
 fn parts() -> Vec<QuoteCase> {
     [
-        each_script("a mask of 64", 4, |script| script.labels[3] = Clauses::new(&[64], &[])),
+        each_script("a mask twice", 4, |script| script.labels[3] = Clauses::new(&[64, 64], &[])),
         each_patched("one label more than there is", 4, header::LABEL_COUNT, 7),
         each_script("a start above the clearance", 5, |script| script.labels.swap(0, 1)),
         each_script("a start that is vouched for less", 5, |script| {
