@@ -31,15 +31,20 @@
 /*
  * Sizes in bytes. An answer below the shortest view is a refusal. A buffer of the longest view is enough for every
  * script file, one of the longest day for every day.
+ *
+ * With six principals a view had 62 to 9278 bytes, and the views of a day at most 148448. A caller that still passes a
+ * buffer of such a length gets NECHWALU_REFUSED_BUFFER, 9, where the view is longer now, and never a cut view; where the
+ * view fits, it is written whole. The offsets below have changed with the widths.
  */
 #define NECHWALU_LARGEST_FILE 65535
-#define NECHWALU_SHORTEST_VIEW 62
-#define NECHWALU_LONGEST_VIEW 9278
-#define NECHWALU_LONGEST_DAY 148448 /* 16 views */
+#define NECHWALU_SHORTEST_VIEW 206
+#define NECHWALU_LONGEST_VIEW 33998
+#define NECHWALU_LONGEST_DAY 543968 /* 16 views */
 #define NECHWALU_NUMBER_SIZE 2
-#define NECHWALU_LABEL_SIZE 16
-#define NECHWALU_VALUE_SIZE 18
-#define NECHWALU_RECORD_SIZE 36
+#define NECHWALU_TABLE_SIZE 32 /* a table, and each word of a value */
+#define NECHWALU_LABEL_SIZE 64
+#define NECHWALU_VALUE_SIZE 66
+#define NECHWALU_RECORD_SIZE 132
 
 /*
  * Where the fields of a view start. All numbers, words and tables are little-endian, and they are not aligned: take them
@@ -50,27 +55,30 @@
 #define NECHWALU_AT_STEPS 2
 #define NECHWALU_AT_NEXT_PLACE 4
 #define NECHWALU_AT_RECORDS_SHOWN 6
-#define NECHWALU_AT_RECORDS_START 8 /* always holds 62 */
-#define NECHWALU_AT_LENGTH 10       /* 62, and 36 for each record shown */
+#define NECHWALU_AT_RECORDS_START 8 /* always holds 206 */
+#define NECHWALU_AT_LENGTH 10       /* 206, and 132 for each record shown */
 #define NECHWALU_AT_RESULT 12       /* a value */
-#define NECHWALU_AT_LABEL 30        /* a label */
-#define NECHWALU_AT_CLEARANCE 46    /* a label */
-#define NECHWALU_AT_RECORDS 62      /* the records shown, one behind the other */
+#define NECHWALU_AT_LABEL 78        /* a label */
+#define NECHWALU_AT_CLEARANCE 142   /* a label */
+#define NECHWALU_AT_RECORDS 206     /* the records shown, one behind the other */
 
 /* Within a record. */
 #define NECHWALU_RECORD_AT_PLACE 0 /* 1 byte */
 #define NECHWALU_RECORD_AT_KIND 1  /* 1 byte */
 #define NECHWALU_RECORD_AT_LABEL 2
-#define NECHWALU_RECORD_AT_VALUE 18
+#define NECHWALU_RECORD_AT_VALUE 66
 
-/* Within a value: its kind, a byte that is 0, and two 64-bit words. */
+/* Within a value: its kind, a byte that is 0, and two words of 32 bytes. Above a number, place or code there are zeros. */
 #define NECHWALU_VALUE_AT_KIND 0 /* 1 byte */
 #define NECHWALU_VALUE_AT_FIRST 2
-#define NECHWALU_VALUE_AT_SECOND 10
+#define NECHWALU_VALUE_AT_SECOND 34
 
-/* Within a label: the tables of its two formulas, 64-bit words. */
+/*
+ * Within a label: the tables of its two formulas, 256 bits each, as four 64-bit words, the lowest first. So bit i of a
+ * table is bit i % 8 of its byte i / 8.
+ */
 #define NECHWALU_LABEL_AT_SECRECY 0
-#define NECHWALU_LABEL_AT_INTEGRITY 8
+#define NECHWALU_LABEL_AT_INTEGRITY 32
 
 /* A quote's answer: below this it is a refusal; else it has the steps above 32 bits, and the places in them. */
 #define NECHWALU_LEAST_QUOTE ((uint64_t)1 << 32)
@@ -104,8 +112,8 @@ extern "C" {
  * Runs the script in `file` and writes what its label with index `reader` may see of the outcome, the view, to the start
  * of `buffer`.
  *
- * Answers the number of a refusal, 1 to 9, and leaves `buffer` as it was; or the view's length, which is 62 or more, and
- * leaves `buffer` behind the view as it was. A view has at most 9278 bytes.
+ * Answers the number of a refusal, 1 to 9, and leaves `buffer` as it was; or the view's length, which is 206 or more, and
+ * leaves `buffer` behind the view as it was. A view has at most 33998 bytes.
  *
  * Any bytes, any index and any buffer, also an empty one, are allowed; a pointer may be NULL where its length is 0.
  * `file` and `buffer` must not overlap. There is no heap and no global state; a call takes less than 512 KiB of stack.
@@ -117,12 +125,12 @@ size_t nechwalu_read(const uint8_t *file, size_t file_length, size_t reader, uin
  * to the start of `buffer`: a view for each job, in their order, end to end.
  *
  * Answers the number of a refusal, 1 to 4 or 6 to 10, and leaves `buffer` as it was; or the length of all views
- * together, which is 62 or more, and leaves `buffer` behind them as it was. The views of a day have at most
- * 16 * 9278 = 148448 bytes.
+ * together, which is 206 or more, and leaves `buffer` behind them as it was. The views of a day have at most
+ * 16 * 33998 = 543968 bytes.
  *
  * Each caller has the day's steps for its own jobs. A job that declares more than its caller has left is skipped,
  * whatever other callers' jobs do. It has a view too, the same for every reader: NECHWALU_SHORTEST_VIEW bytes with
- * NECHWALU_ENDING_SKIPPED, 62 at NECHWALU_AT_RECORDS_START and at NECHWALU_AT_LENGTH, and 0 elsewhere.
+ * NECHWALU_ENDING_SKIPPED, 206 at NECHWALU_AT_RECORDS_START and at NECHWALU_AT_LENGTH, and 0 elsewhere.
  *
  * No file is both a script file and a day: what one of the two calls reads, the other refuses. What is allowed is as for
  * nechwalu_read. There is no heap and no global state here either; a call takes less than 512 KiB of stack.

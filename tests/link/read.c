@@ -9,7 +9,10 @@
 #include <stdlib.h>
 #include <string.h>
 
-enum { GUARD = 64, FILL = 0xA5, JOBS = 8, JOBS_OFFSET = 10, DAY_STEPS = 16, JOB_ZERO = 3 };
+enum { GUARD = 64, FILL = 0xA5, JOBS = 8, JOBS_OFFSET = 10, DAY_STEPS = 16, JOB_ZERO = 3, MOST_JOBS = 16 };
+
+/* The shortest and the longest view, and the longest day, with six principals. */
+enum { OLD_SHORTEST_VIEW = 62, OLD_LONGEST_VIEW = 9278, OLD_LONGEST_DAY = 148448 };
 
 /* What a script file and a day differ in. */
 struct kind {
@@ -33,9 +36,10 @@ struct field {
 };
 
 #define NUMBER(at) {at, NECHWALU_NUMBER_SIZE}
-#define LABEL(at) {(at) + NECHWALU_LABEL_AT_SECRECY, 8}, {(at) + NECHWALU_LABEL_AT_INTEGRITY, 8}
+#define WORD(at) {at, NECHWALU_TABLE_SIZE}
+#define LABEL(at) WORD((at) + NECHWALU_LABEL_AT_SECRECY), WORD((at) + NECHWALU_LABEL_AT_INTEGRITY)
 #define VALUE(at) \
-    {(at) + NECHWALU_VALUE_AT_KIND, 2}, {(at) + NECHWALU_VALUE_AT_FIRST, 8}, {(at) + NECHWALU_VALUE_AT_SECOND, 8}
+    NUMBER((at) + NECHWALU_VALUE_AT_KIND), WORD((at) + NECHWALU_VALUE_AT_FIRST), WORD((at) + NECHWALU_VALUE_AT_SECOND)
 
 static const struct field FRONT[] = {
     NUMBER(NECHWALU_AT_ENDING),
@@ -166,6 +170,7 @@ static void try_reader(struct input input, size_t reader, size_t answer)
     size_t last = print_views(input, answer);
     expect(read_with(input, reader, answer - 1), NECHWALU_REFUSED_BUFFER, "a buffer that is a byte too short");
     expect(read_with(input, reader, answer - last), NECHWALU_REFUSED_BUFFER, "a buffer without room for the last view");
+    expect(read_with(input, reader, OLD_SHORTEST_VIEW), NECHWALU_REFUSED_BUFFER, "a buffer of the old shortest view");
     expect(read_with(input, reader, 0), NECHWALU_REFUSED_BUFFER, "an empty buffer");
     expect(read_without_buffer(input, reader), NECHWALU_REFUSED_BUFFER, "no buffer");
 }
@@ -222,6 +227,86 @@ static void try_jobs(struct input input)
     }
 }
 
+static size_t put(uint8_t *bytes, size_t at, size_t first, size_t second)
+{
+    bytes[at] = first & 255;
+    bytes[at + 1] = first >> 8;
+    bytes[at + 2] = second & 255;
+    bytes[at + 3] = second >> 8;
+    return at + 4;
+}
+
+/* A file whose scripts, of a day 16 of different callers, seal label 1 under label 0 until no place is left. */
+static struct input longest_file(const struct kind *kind)
+{
+    enum { STEPS = 2000, PLACES = 256, JOB = 12 };
+    static const uint8_t labels[] = {0, 0, 1, 0, 0}; /* public; False and True */
+    static const uint8_t code[] = {
+        0x02, 1, 0x02, 0, 0x13, /* LAB 1, LAB 0, SEAL: 26 with no place left */
+        0x05, 0x0A, 0, 0,       /* POP, JUMP 0 */
+    };
+    static uint8_t bytes[NECHWALU_LARGEST_FILE];
+    const size_t jobs = kind == &DAY ? MOST_JOBS : 0, records_at = kind->header + sizeof labels;
+    const size_t code_at = records_at + jobs * JOB;
+
+    size_t at = put(bytes, 0, 2, kind->header);
+    at = put(bytes, at, 0, records_at);
+    if (kind == &DAY)
+        at = put(bytes, at, jobs, records_at);
+    at = put(bytes, at, sizeof code, code_at);
+    at = put(bytes, at, STEPS, kind == &DAY ? 0 : PLACES); /* a day's steps have 32 bits */
+    memcpy(bytes + at, labels, sizeof labels);
+    at = records_at;
+    for (size_t job = 0; job < jobs; job++) {
+        at = put(bytes, at, job, 1); /* the caller, label 0; clearance label 1, the zero byte */
+        at = put(bytes, at, STEPS, PLACES);
+        at = put(bytes, at, 0, sizeof code);
+    }
+    memcpy(bytes + code_at, code, sizeof code);
+    return (struct input){kind, bytes, code_at + sizeof code};
+}
+
+/* The table of True, where all bits are 1, or of False. */
+static void expect_table(const uint8_t *table, int holds, const char *what)
+{
+    for (size_t i = 0; i < NECHWALU_TABLE_SIZE; i++)
+        expect(table[i], holds ? 255 : 0, what);
+}
+
+/* A view of 256 records, each public and with label 1 in it. */
+static void expect_longest(const uint8_t *view, size_t left)
+{
+    const uint8_t *record = view + NECHWALU_AT_RECORDS;
+    expect(view_length(view, left), NECHWALU_LONGEST_VIEW, "the length of the longest view");
+    expect(number(view + NECHWALU_AT_ENDING), NECHWALU_ENDING_FAULT, "the ending of the longest view");
+    for (size_t place = 0; place < 256; place++, record += NECHWALU_RECORD_SIZE) {
+        const uint8_t *label = record + NECHWALU_RECORD_AT_LABEL, *value = record + NECHWALU_RECORD_AT_VALUE;
+        expect(record[NECHWALU_RECORD_AT_PLACE], place, "the place of a record");
+        expect(record[NECHWALU_RECORD_AT_KIND], NECHWALU_RECORD_SEALED, "the kind of a record");
+        expect_table(label + NECHWALU_LABEL_AT_SECRECY, 1, "a byte of a public label's secrecy");
+        expect_table(label + NECHWALU_LABEL_AT_INTEGRITY, 1, "a byte of a public label's integrity");
+        expect(value[NECHWALU_VALUE_AT_KIND], NECHWALU_VALUE_LABEL, "the kind of a label");
+        expect_table(value + NECHWALU_VALUE_AT_FIRST, 0, "a byte of label 1's secrecy");
+        expect_table(value + NECHWALU_VALUE_AT_SECOND, 1, "a byte of label 1's integrity");
+    }
+}
+
+/* The longest views. A buffer that held any views with six principals is refused and stays untouched. */
+static void try_longest(const struct kind *kind)
+{
+    const struct input input = longest_file(kind);
+    const size_t length = kind->longest, old = kind == &DAY ? OLD_LONGEST_DAY : OLD_LONGEST_VIEW;
+    for (size_t reader = 0; reader < number(input.bytes); reader++) {
+        expect(read_with(input, reader, length), length, "the longest views");
+        for (size_t at = 0; at < length; at += NECHWALU_LONGEST_VIEW)
+            expect_longest(buffer + at, length - at);
+        expect(read_with(input, reader, length - 1), NECHWALU_REFUSED_BUFFER, "a buffer a byte too short for them");
+        expect(read_with(input, reader, old), NECHWALU_REFUSED_BUFFER, "a buffer of the old longest length");
+        expect(read_with(input, reader, OLD_LONGEST_VIEW), NECHWALU_REFUSED_BUFFER, "one of the old longest view");
+        expect(read_with(input, reader, OLD_SHORTEST_VIEW), NECHWALU_REFUSED_BUFFER, "one of the old shortest view");
+    }
+}
+
 /* A whole file, with zeros behind it up to one byte more than the largest has. */
 static struct input load(const struct kind *kind, const char *name)
 {
@@ -248,6 +333,7 @@ int main(int count, char **words)
     try_files(input);
     if (kind == &DAY)
         try_jobs(input);
+    try_longest(kind);
     if (memcmp(input.bytes, copy, sizeof copy) != 0)
         fail("the file is written");
     return fflush(stdout) == 0 ? 0 : 1;

@@ -3,6 +3,7 @@
 use mathlib.Core.Bool.{Bool, _&&_}
 use mathlib.Core.List.{List, [], _∷_, _++_}
 use Prim.Native.Nat.{ℕ}
+use Rattle.labels.specs.Tables.{principals}
 use Rattle.labels.specs.Order.{label}
 use Rattle.labels.specs.Cases.{Case}
 use Rattle.labels.specs.declared.Label.{Label}
@@ -28,10 +29,10 @@ abbrev script : List ℕ → List ℕ
 script code = file 3 (publicEntry ++ bothEntry ++ playerEntry) 1 (0 ∷ 2 ∷ littleEndian 4 7) code 20 2
 
 abbrev labelIs : List ℕ → Label → Bool
-labelIs bs l = sameBytes (labelField (fileRun bs .account .label)) (labelField l)
+labelIs bs l = sameBytes (labelField principals (fileRun bs .account .label)) (labelField principals l)
 
 abbrev clearanceIs : List ℕ → Label → Bool
-clearanceIs bs l = sameBytes (labelField (fileRun bs .account .clearance)) (labelField l)
+clearanceIs bs l = sameBytes (labelField principals (fileRun bs .account .clearance)) (labelField principals l)
 
 -- ── code, with its bytes counted ──
 
@@ -114,7 +115,7 @@ catchingCases =
     -- a body's uncaught fault is sealed; the outer frame catches nothing
     ∷ record {
       number = 44;
-      holds = resultIsLabel crossing both && sameBytes (slotField 1 (at (fileRun crossing .store) 1)) (1 ∷ 0 ∷ labelField public ++ valueField 5 30 5);
+      holds = resultIsLabel crossing both && sameBytes (slotField principals 1 (at (fileRun crossing .store) 1)) (1 ∷ 0 ∷ labelField principals public ++ valueField principals 5 30 5);
     }
     -- an uncaught fault leaves the clearance as it is at the throw, also where a frame was dropped
     ∷ record { number = 45; holds = faultsWith uncaught 30 5 && clearanceIs uncaught public }

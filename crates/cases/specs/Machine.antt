@@ -4,6 +4,7 @@ use mathlib.Core.List.{List, [], _∷_, _++_}
 use Prim.Native.Nat.{ℕ, _+_, _-_}
 use lib.Dec.{eqb}
 use lib.ListN.{length}
+use Rattle.labels.specs.Tables.{principals, whole}
 use Rattle.labels.specs.Order.{label}
 use Rattle.labels.specs.Cases.{Case}
 use Rattle.labels.specs.declared.Label.{Label}
@@ -41,19 +42,19 @@ sameBytes (b ∷ bs) (c ∷ cs) = eqb b c && sameBytes bs cs
 
 -- the file is taken, and the result field of its run is this
 abbrev endsIn : List ℕ → List ℕ → Bool
-endsIn bs field = every (eqb (refusal bs) 0 ∷ sameBytes (resultField (fileRun bs .ending)) field ∷ [])
+endsIn bs field = every (eqb (refusal bs) 0 ∷ sameBytes (resultField principals (fileRun bs .ending)) field ∷ [])
 
 -- its run ends with a fault of this code and number
 abbrev pub faultsWith : List ℕ → ℕ → ℕ → Bool
-faultsWith bs code n = endsIn bs (valueField 5 code n)
+faultsWith bs code n = endsIn bs (valueField principals 5 code n)
 
 -- its run ends with this number as its result
 abbrev pub resultIs : List ℕ → ℕ → Bool
-resultIs bs n = endsIn bs (valueField 1 n 0)
+resultIs bs n = endsIn bs (valueField principals 1 n 0)
 
 -- its run ends with this label as its result
 abbrev pub resultIsLabel : List ℕ → Label → Bool
-resultIsLabel bs l = endsIn bs (valueField 2 (l .secrecy) (l .integrity))
+resultIsLabel bs l = endsIn bs (valueField principals 2 (whole (l .secrecy)) (whole (l .integrity)))
 
 -- P9: INPUT 0, OPEN, END under a public clearance; record 0 is sealed, ⟨player, True⟩, number 7. By T-02 the fault has
 -- number 1: secrecy fails.
@@ -73,8 +74,8 @@ p10 =
 abbrev holds10 : Bool
 holds10 =
     every
-    (eqb (refusal p10) 0 ∷ sameBytes (slotField 1 (at (fileRun p10 .store) 1)) (1 ∷ 0 ∷ labelField public ++ valueField 5 31 0)
-    ∷ sameBytes (labelField (fileRun p10 .account .label)) (labelField public) ∷ [])
+    (eqb (refusal p10) 0 ∷ sameBytes (slotField principals 1 (at (fileRun p10 .store) 1)) (1 ∷ 0 ∷ labelField principals public ++ valueField principals 5 31 0)
+    ∷ sameBytes (labelField principals (fileRun p10 .account .label)) (labelField principals public) ∷ [])
 
 -- P11: CUR, BLOCK with the body at 7, no steps and no places, END. The outcome is at place 0.
 abbrev p11 : List ℕ
@@ -83,14 +84,14 @@ p11 = file 2 (publicEntry ++ publicEntry) 0 [] (0x0C ∷ 0x19 ∷ 7 ∷ 0 ∷ 0 
 abbrev holds11 : Bool
 holds11 =
     every
-    (eqb (refusal p11) 0 ∷ sameBytes (slotField 0 (at (fileRun p11 .store) 0)) (0 ∷ 0 ∷ labelField public ++ valueField 5 32 0) ∷ [])
+    (eqb (refusal p11) 0 ∷ sameBytes (slotField principals 0 (at (fileRun p11 .store) 0)) (0 ∷ 0 ∷ labelField principals public ++ valueField principals 5 32 0) ∷ [])
 
 -- P12: S 1, PUSH 5, END
 abbrev p12 : List ℕ
 p12 = file 2 (publicEntry ++ publicEntry) 0 [] (0x01 ∷ 5 ∷ 0 ∷ 0 ∷ 0 ∷ 0x00 ∷ []) 1 0
 
 abbrev holds12 : Bool
-holds12 = every (endsIn p12 (valueField 0 0 0) ∷ eqb (1 - fileRun p12 .account .steps) 1 ∷ [])
+holds12 = every (endsIn p12 (valueField principals 0 0 0) ∷ eqb (1 - fileRun p12 .account .steps) 1 ∷ [])
 
 abbrev pub machineCases : List Case
 machineCases =

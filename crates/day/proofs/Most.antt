@@ -10,7 +10,7 @@ use Rattle.model.specs.State.{Store, at, shown}
 use Rattle.model.specs.declared.Slot.the-variants.{Empty}
 use Rattle.model.specs.Inputs.{inputSlots}
 use Rattle.model.specs.Running.{startStore}
-use Rattle.view.specs.Layout.{recordsShown, viewLength, view}
+use Rattle.view.specs.Layout.{recordsShown, view, lengthOver}
 use Rattle.view.proofs.Widths.{one-small, length-view}
 use Rattle.day_file.specs.declared.Job.{Job}
 use Rattle.day_file.specs.Sections.{dayHeader, dayInputs, dayJobs}
@@ -44,8 +44,8 @@ shown-below Reads (x ∷ σ) (suc k) e =
 
 module _ (bs : List ℕ) where
   module _ (j : Job) (le : j .places ≤ 256) (σ : Store) (f : Free (dayHeader bs .records .count) σ) where
-    pub job-most : (Reads : Label → Bool) → dayHeader bs .records .count ≤ j .places → length (view Reads (j .steps) (jobRun bs j σ)) ≤ 62 + 36 * j .places
-    unfolding viewLength
+    pub job-most : (Reads : Label → Bool) → dayHeader bs .records .count ≤ j .places → length (view Reads (j .steps) (jobRun bs j σ)) ≤ 206 + 132 * j .places
+    unfolding lengthOver
     job-most Reads fits =
         omega (arith, length-view Reads (j .steps) (jobRun bs j σ), shown-below Reads (jobRun bs j σ .store) (j .places) (job-below bs j le σ f fits))
 

@@ -21,7 +21,7 @@ use Rattle.day.specs.Parts.{shownAt, mostBytes}
 
 module _ (bs : List ℕ) (at n : ℕ) where
   -- the most bytes that the views from job k on can have
-  pub most-here : (k : ℕ) → k < n → mostBytes (jobsLeft bs at n k) ≡ 62 + 36 * job bs at n k .places + mostBytes (jobsLeft bs at n (k + 1))
+  pub most-here : (k : ℕ) → k < n → mostBytes (jobsLeft bs at n k) ≡ 206 + 132 * job bs at n k .places + mostBytes (jobsLeft bs at n (k + 1))
   unfolding mostBytes
   most-here k h = ap mostBytes (next-job bs at n k h)
 

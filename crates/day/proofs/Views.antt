@@ -24,7 +24,7 @@ use Rattle.view.specs.Layout.{view}
 use Rattle.view.specs.Writing.{finished, shownIn}
 use Rattle.view.proofs.Widths.{length-view, view-finished}
 use Rattle.view.proofs.LengthField.{view-most}
-use Rattle.file_sections.specs.Sections.{inputsOf}
+use Rattle.file_sections.specs.Sections.{inputsOver}
 use Rattle.day_file.specs.declared.Header.{Header}
 use Rattle.day_file.specs.declared.Job.{Job}
 use Rattle.day_file.specs.Sections.{dayHeader, dayInputs}
@@ -71,12 +71,12 @@ shown-part at v b ys h e =
     whole : back at b (part at b) ≡ b
     whole = ap (λ (y : List ℕ). take at b ++ y) (take-append-drop (length b - at) (drop at b)) ∙ take-append-drop at b
 
-pub length-skipped : length skippedView ≡ 62
+pub length-skipped : length skippedView ≡ 206
 unfolding skippedView littleEndian
 length-skipped = refl
 
 -- a skipped job's view in the parts that are written
-pub skipped-parts : (b : List ℕ) → over (numbers 4 0 0 ++ (numbers 0 62 62 ++ replicate 50 0)) b ≡ over skippedView b
+pub skipped-parts : (b : List ℕ) → over (numbers 4 0 0 ++ (numbers 0 206 206 ++ replicate 194 0)) b ≡ over skippedView b
 unfolding skippedView numbers littleEndian
 skipped-parts b = refl
 
@@ -99,7 +99,7 @@ module _ (Reads : Label → Bool) (bs : List ℕ) where
     pub left : ℕ → ℕ
     pub allowances : Holds callers left
     pub some : k ≤ dayHeader bs .jobs .count
-    pub few : at ≤ 9278 * k
+    pub few : at ≤ 33998 * k
     pub size : length store ≡ words
     pub shows : Shows whole (left-over k left store) b₀ b at
 
@@ -126,7 +126,7 @@ module _ (Reads : Label → Bool) (bs : List ℕ) where
     allowances-then = holds-then (w .allowances) j small asked
 
     pub one-skipped : a .admitted ≡ false → {b′ : List ℕ} → b′ ≡ shownAt at skippedView b → length b′ ≡ length b
-        → {n : ℕ} → n ≡ 62 → Served b₀ b′ store (a .callers) (at + n) (k + 1)
+        → {n : ℕ} → n ≡ 206 → Served b₀ b′ store (a .callers) (at + n) (k + 1)
     unfolding turnView
     one-skipped s q z e =
         record {
@@ -149,7 +149,7 @@ module _ (Reads : Label → Bool) (bs : List ℕ) where
         (made-ran (turnView Reads) bs (dayHeader bs .jobs .offset) (dayHeader bs .jobs .count) k (w .left) (slots store) h (rw is at (fitting s)))
 
     pub one-ran : a .admitted ≡ true → {next : List ℕ} → length next ≡ words → slots next ≡ storeAfter bs j (slots store)
-        → {n : ℕ} → n ≤ 9278 → n ≡ length (view Reads (j .steps) (jobRun bs j (slots store)))
+        → {n : ℕ} → n ≤ 33998 → n ≡ length (view Reads (j .steps) (jobRun bs j (slots store)))
         → {b′ : List ℕ} → b′ ≡ shownAt at (view Reads (j .steps) (jobRun bs j (slots store))) b → length b′ ≡ length b
         → Served b₀ b′ next (a .callers) (at + n) (k + 1)
     one-ran s {next} z then {n} few e q same =
@@ -181,7 +181,7 @@ module _ (Reads : Label → Bool) (bs : List ℕ) (j : Job) (σ : Store) (f : Fi
   unfolding storeAfter
   served-store c e next q = q ∙ rw (e, fin .store)
 
-  pub served-length : (n : ℕ) → n ≡ length (view Reads (j .steps) (finished f (slots ran))) → n ≤ 9278
+  pub served-length : (n : ℕ) → n ≡ length (view Reads (j .steps) (finished f (slots ran))) → n ≤ 33998
   served-length n e = omega (arith, e, length-view Reads (j .steps) (finished f (slots ran)), view-most Reads ran)
 
 -- ── the start ──
@@ -190,5 +190,5 @@ module _ (bs : List ℕ) (h : Header) (ws : List ℕ) (w : DayLoads bs h ws) whe
   -- what the input records are placed by
   pub inputs-placed : (σ : Store) → σ ≡ startStore (inputSlots (inputs (labelIn ws) (recordsIn h bs) (count (recordsIn h bs)) 0))
       → σ ≡ startStore (inputSlots (dayInputs bs))
-  unfolding inputsOf
+  unfolding inputsOver
   inputs-placed σ e = e ∙ rw (labels-are bs h ws w, counted bs h ws w, records-are bs h ws w, w .numbers)

@@ -4,6 +4,7 @@ use mathlib.Core.List.{List, [], _∷_, _++_}
 use Prim.Native.Nat.{ℕ, _+_, _*_}
 use lib.Dec.{leb}
 use lib.ListN.{length, take, drop}
+use Rattle.labels.specs.Tables.{principals}
 use Rattle.view_fields.specs.Fields.{recordWidth}
 use Rattle.view_fields.specs.Writing.{over}
 use Rattle.view.specs.Layout.{recordsAt}
@@ -16,4 +17,4 @@ shownAt at v b = cond (leb (at + length v) (length b)) (take at b ++ over v (dro
 -- the most bytes that the views of some jobs can have: a record at each of their places
 unfoldable pub mostBytes : List Job → ℕ
 mostBytes [] = 0
-mostBytes (j ∷ js) = recordsAt + recordWidth * j .places + mostBytes js
+mostBytes (j ∷ js) = recordsAt + recordWidth principals * j .places + mostBytes js

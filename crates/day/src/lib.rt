@@ -14,9 +14,10 @@ ghost use mathlib.Core.Path.{_≡_};
 ghost use Prim.Native.Nat.{_≤_, _<_, _^_};
 ghost use lib.Dec.{leb};
 ghost use lib.ListN.{length};
+ghost use Rattle.model.specs.Words.{fileWords};
 ghost use Rattle.store.specs.Slots.{words, slots};
 ghost use Rattle.view_fields.specs.Writing.{over};
-ghost use Rattle.view.specs.Layout.{view as viewOf};
+ghost use Rattle.view.specs.Layout.{recordsAt, longestView, view as viewOf};
 ghost use Rattle.view.specs.Writing.{observes, finished};
 ghost use Rattle.reading.specs.Answers.{reads};
 ghost use Rattle.day_file.specs.Sections.{dayHeader, dayJobs};
@@ -33,7 +34,7 @@ ghost use Rattle.day.specs.Parts.{shownAt, mostBytes};
 const SKIPPED: u64 = 4;
 
 pub fn write_skipped(out: &mut [u8])
-    requires { ⌜ 62 ≤ length (now out) ⌝ }
+    requires { ⌜ recordsAt ≤ length (now out) ⌝ }
     ensures { λ _. ⌜ now (out .exit) ≡ over skippedView (now (out .entry)) ⌝ }
 {
     let n = RECORDS as u64;
@@ -45,7 +46,7 @@ pub fn write_skipped(out: &mut [u8])
 // Writes the view of a skipped job from `at` on, if it fits there, and gives its length.
 fn show_skipped(at: usize, out: &mut [u8]) -> usize
     requires { ⌜ at < 2 ^ 32 ⌝ }
-    ensures { λ r. ⌜ (r ≡ 62) × (now (out .exit) ≡ shownAt at skippedView (now (out .entry))) ⌝ }
+    ensures { λ r. ⌜ (r ≡ recordsAt) × (now (out .exit) ≡ shownAt at skippedView (now (out .entry))) ⌝ }
 {
     if at + RECORDS <= out.len() {
         write_skipped(&mut out[at..]);
@@ -82,8 +83,8 @@ fn serve_job(
     at: usize,
     out: &mut [u8],
 ) -> usize
-    requires { ⌜ DayLoads (now file) h (now labels) × (length (now labels) ≡ 64) × (length (now store) ≡ words) × Runnable h job (now file) × (at < 2 ^ 32) ⌝ }
-    ensures { λ r. ⌜ (r ≤ 9278) × (r ≡ length (viewOf (observes reader) (job .steps) (jobRun (now (file .entry)) job (slots (now (store .entry)))))) × (slots (now (store .exit)) ≡ storeAfter (now (file .entry)) job (slots (now (store .entry)))) × (now (out .exit) ≡ shownAt at (viewOf (observes reader) (job .steps) (jobRun (now (file .entry)) job (slots (now (store .entry))))) (now (out .entry))) ⌝ }
+    requires { ⌜ DayLoads (now file) h (now labels) × (length (now labels) ≡ fileWords) × (length (now store) ≡ words) × Runnable h job (now file) × (at < 2 ^ 32) ⌝ }
+    ensures { λ r. ⌜ (r ≤ longestView) × (r ≡ length (viewOf (observes reader) (job .steps) (jobRun (now (file .entry)) job (slots (now (store .entry)))))) × (slots (now (store .exit)) ≡ storeAfter (now (file .entry)) job (slots (now (store .entry)))) × (now (out .exit) ≡ shownAt at (viewOf (observes reader) (job .steps) (jobRun (now (file .entry)) job (slots (now (store .entry))))) (now (out .entry))) ⌝ }
 {
     let records = h.records;
     let steps = job.steps;
@@ -96,7 +97,7 @@ fn serve_job(
 // Runs the jobs one behind the other, each on the store that the one before left, and gives the length of their views. The
 // views are written if there is room for them all.
 fn write_views(file: &[u8], h: Header, labels: &[u64], reader: Label, out: &mut [u8]) -> usize
-    requires { ⌜ DayLoads (now file) h (now labels) × (length (now labels) ≡ 64) ⌝ }
+    requires { ⌜ DayLoads (now file) h (now labels) × (length (now labels) ≡ fileWords) ⌝ }
     ensures { λ r. ⌜ (r ≡ length (turnViews (observes reader) (dayTurns (now (file .entry))))) × (length (turnViews (observes reader) (dayTurns (now (file .entry)))) ≤ length (now (out .entry)) → now (out .exit) ≡ over (turnViews (observes reader) (dayTurns (now (file .entry)))) (now (out .entry))) ⌝ }
 {
     let records = h.records;
@@ -145,7 +146,7 @@ fn most_bytes(file: &[u8], h: Header) -> usize
 
 // The length of the views: the day is run, and nothing is kept of it.
 fn views_length(file: &[u8], h: Header, labels: &[u64], reader: Label) -> usize
-    requires { ⌜ DayLoads (now file) h (now labels) × (length (now labels) ≡ 64) ⌝ }
+    requires { ⌜ DayLoads (now file) h (now labels) × (length (now labels) ≡ fileWords) ⌝ }
     ensures { λ r. ⌜ r ≡ length (turnViews (observes reader) (dayTurns (now (file .entry)))) ⌝ }
 {
     let mut none = [0u8; 1];
@@ -155,7 +156,7 @@ fn views_length(file: &[u8], h: Header, labels: &[u64], reader: Label) -> usize
 // Whether a buffer of `room` bytes holds the views. One that holds the most that they can have does; for any other the day
 // is run.
 fn views_fit(file: &[u8], h: Header, labels: &[u64], reader: Label, room: usize) -> bool
-    requires { ⌜ DayLoads (now file) h (now labels) × (length (now labels) ≡ 64) ⌝ }
+    requires { ⌜ DayLoads (now file) h (now labels) × (length (now labels) ≡ fileWords) ⌝ }
     ensures { λ r. ⌜ r ≡ leb (length (turnViews (observes reader) (dayTurns (now (file .entry))))) room ⌝ }
 {
     if most_bytes(file, h) <= room {
@@ -172,7 +173,7 @@ pub fn read_loaded(
     reader: usize,
     buffer: &mut [u8],
 ) -> Answer
-    requires { ⌜ DayLoads (now file) h (now labels) × (length (now labels) ≡ 64) ⌝ }
+    requires { ⌜ DayLoads (now file) h (now labels) × (length (now labels) ≡ fileWords) ⌝ }
     ensures { λ r. ⌜ reads r (now (buffer .exit)) ≡ dayReading (now (file .entry)) reader (now (buffer .entry)) ⌝ }
 {
     let listed = h.labels;

@@ -183,7 +183,7 @@ module _ (bs : List ℕ) where
       record { none = none; numbers = day-header h e; labels = rw none at w }
 
   -- the words are as many as before
-  pub words-lent : (was ws : List ℕ) → length was ≡ 64 → ws ≡ dayWords bs was → length ws ≡ 64
+  pub words-lent : (was ws : List ℕ) → length was ≡ 256 → ws ≡ dayWords bs was → length ws ≡ 256
   words-lent = length-lent (dayRefusal bs) (dayLabels bs)
 
   -- what a refusal, and what a day that loads, promise of the answer and of the words

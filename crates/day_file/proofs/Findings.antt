@@ -2,18 +2,17 @@
 use mathlib.Core.Bool.{Bool, true}
 use mathlib.Core.List.{List}
 use mathlib.Core.Path.{_≡_, sym, ap, ap₂, subst, _∙_}
-use Prim.Native.Nat.{ℕ, _+_, _-_, _*_, _≤_, _<_, _^_}
+use Prim.Native.Nat.{ℕ, _+_, _-_, _*_, _≤_, _<_}
 use native.Mathlib.Omega.{arith}
 use lib.ListN.{length, take, drop}
 use lib.Seq.{drop-drop}
 use Rattle.labels.specs.declared.Label.{Label}
 use Rattle.model.specs.Words.{labelIn}
 use Rattle.code_check.specs.Sweep.{codeOk}
-use Rattle.file_sections.specs.Sections.{readLabels, labelBytesOf, labelsOf, recordBytesOf, orNone}
+use Rattle.file_sections.specs.Sections.{readLabels, labelBytesOf, recordBytesOf, labelsOver}
 use Rattle.file_sections.specs.Checks.{recordsOk}
-use Rattle.file_sections.specs.Words.{tableOf, tables, labelWords}
-use Rattle.file_sections.specs.declared.Table.{Table}
-use Rattle.file_sections.proofs.Labels.{length-padded}
+use Rattle.file_sections.specs.Words.{labelsFound}
+use Rattle.file_sections.specs.declared.FileLabels.{FileLabels}
 use Rattle.day_file.specs.Sections.{dayHeader, daySections, dayLabels, dayLabel, jobFrom, jobsFrom, span}
 use Rattle.day_file.specs.Checks.{sizeOk, countsOk, offsetsOk, jobsOk, spanOk, passes1, passes2, passes3, passes4, passes10, passes6, passes7}
 use Rattle.day_file.specs.declared.Header.{Header}
@@ -49,9 +48,9 @@ module _ (bs : List ℕ) where
     unfolding passes3
     finds3 e = ap (λ (g : Header). offsetsOk g (length bs)) (sym is) ∙ e
 
-    pub day-table : (t : Table) → t ≡ tableOf (readLabels (h .labels .count) (take (h .records .offset - 20) (drop 20 bs))) → t ≡ tableOf (dayLabels bs)
-    unfolding labelsOf labelBytesOf
-    day-table t e = e ∙ ap (λ (g : Header). tableOf (readLabels (g .labels .count) (take (g .records .offset - 20) (drop 20 bs)))) is
+    pub day-table : (t : FileLabels) → t ≡ labelsFound (readLabels (h .labels .count) (take (h .records .offset - 20) (drop 20 bs))) → t ≡ labelsFound (dayLabels bs)
+    unfolding labelsOver labelBytesOf
+    day-table t e = e ∙ ap (λ (g : Header). labelsFound (readLabels (g .labels .count) (take (g .records .offset - 20) (drop 20 bs)))) is
 
     pub records-in : h .jobs .offset ≡ h .records .offset + 6 * h .records .count → recordsIn h bs ≡ recordBytesOf (daySections bs) bs
     unfolding recordBytesOf
@@ -92,19 +91,15 @@ module _ (bs : List ℕ) where
         let p = placed (dayHeader bs) (length bs) e3 in
         record { ends = omega (arith, f .inside, p .whole); short = omega (arith, f .inside, c .code) })
 
-  module _ (t : Table) (is : t ≡ tableOf (dayLabels bs)) where
+  module _ (t : FileLabels) (is : t ≡ labelsFound (dayLabels bs)) where
     pub finds4 : {b : Bool} → t .whole ≡ b → passes4 bs ≡ b
     unfolding passes4
-    finds4 e = sym (ap (λ (u : Table). u .whole) is) ∙ e
-
-    pub words-64 : length (t .words) < 2 ^ 32
-    unfolding labelWords
-    words-64 = let e : length (t .words) ≡ 64 = ap (λ (u : Table). length (u .words)) is ∙ length-padded 64 (tables (orNone (dayLabels bs))) in omega arith
+    finds4 e = sym (ap (λ (u : FileLabels). u .whole) is) ∙ e
 
     pub finds10 : (h : Header) → h ≡ dayHeader bs → h .labels .count ≤ 32 → {b : Bool}
         → jobsOk h (labelIn (t .words)) (jobsFrom bs (h .jobs .count) (h .jobs .offset)) ≡ b → passes10 bs ≡ b
     unfolding passes10
     finds10 h same few r =
         let listed = subst (λ (g : Header). g .labels .count ≤ 32) same few in
-        let ls : dayLabel bs ≡ labelIn (t .words) = sym (ap (λ (u : Table). labelIn (u .words)) is ∙ labels-in bs listed) in
+        let ls : dayLabel bs ≡ labelIn (t .words) = sym (ap (λ (u : FileLabels). labelIn (u .words)) is ∙ labels-in bs listed) in
         ap₂ (λ (g : Header) (f : ℕ → Label). jobsOk g f (jobsFrom bs (g .jobs .count) (g .jobs .offset))) (sym same) ls ∙ r

@@ -5,6 +5,7 @@ use mathlib.Core.List.{List, [], _∷_, map}
 use Prim.Native.Nat.{ℕ, _+_, _*_}
 use lib.Dec.{leb, ltb, eqb}
 use lib.ListN.{length}
+use Rattle.labels.specs.Tables.{principals}
 use Rattle.labels.specs.Order.{flows}
 use Rattle.labels.specs.declared.Label.{Label}
 use Rattle.file_sections.specs.Checks.{every, labelsPass, recordsPass}
@@ -62,7 +63,7 @@ unfoldable pub passes3 : List ℕ → Bool
 passes3 bs = offsetsOk (dayHeader bs) (length bs)
 
 unfoldable pub passes4 : List ℕ → Bool
-passes4 bs = labelsPass (daySections bs) bs
+passes4 bs = labelsPass principals (daySections bs) bs
 
 unfoldable pub passes10 : List ℕ → Bool
 passes10 bs = jobsOk (dayHeader bs) (dayLabel bs) (dayJobs bs)

@@ -3,7 +3,7 @@ ghost use mathlib.Core.Bool.{true};
 ghost use mathlib.Core.Path.{_≡_};
 ghost use Prim.Native.Nat.{_<_, _^_};
 ghost use lib.ListN.{length};
-ghost use Rattle.model.specs.Words.{labelIn};
+ghost use Rattle.model.specs.Words.{labelIn, fileWords};
 ghost use Rattle.day_file.specs.Sections.{dayHeader, jobFrom, jobsFrom};
 ghost use Rattle.day_file.specs.Checks.{sizeOk, countsOk, offsetsOk, jobOk, jobsOk, passes2, passes3, passes10, passes7};
 ghost use Rattle.day_file.specs.Loading.{loadedDay, dayWords};
@@ -129,7 +129,7 @@ pub fn job_at(file: &[u8], at: usize) -> Job
 
 // Check 10, of one job: its numbers within their limits, its span inside the code, and its label flows to its clearance.
 fn job_ok(h: Header, words: &[u64], job: Job) -> bool
-    requires { ⌜ (length (now words) < 2 ^ 32) × (job .start < 2 ^ 16) × (job .length < 2 ^ 16) ⌝ }
+    requires { ⌜ (length (now words) ≡ fileWords) × (job .start < 2 ^ 16) × (job .length < 2 ^ 16) ⌝ }
     ensures { λ r. ⌜ r ≡ jobOk h (labelIn (now (words .entry))) job ⌝ }
 {
     let labels = h.labels;
@@ -170,7 +170,7 @@ fn job_ok(h: Header, words: &[u64], job: Job) -> bool
 
 // Check 10: 1 to 16 jobs, each as above. The labels are given as words.
 fn jobs_ok(file: &[u8], h: Header, words: &[u64]) -> bool
-    requires { ⌜ Shorts h × (length (now words) < 2 ^ 32) ⌝ }
+    requires { ⌜ Shorts h × (length (now words) ≡ fileWords) ⌝ }
     ensures { λ r. ⌜ r ≡ jobsOk h (labelIn (now (words .entry))) (jobsFrom (now (file .entry)) (h .jobs .count) (h .jobs .offset)) ⌝ }
 {
     let jobs = h.jobs;
@@ -222,8 +222,8 @@ fn spans_ok(file: &[u8], h: Header) -> bool
 
 // Loads a day of any length. The answer is the number of the first check that stops it, or its header; the jobs, the code
 // and the input records stay in the file, where the header says. The labels of a day that loads are put into `labels`,
-// label i at words 2 i and 2 i + 1, and 0 behind them; a refusal leaves `labels` as it was.
-pub fn load_day(file: &[u8], labels: &mut [u64; 64]) -> Loaded
+// label i at the eight words from 8 i on, and 0 behind them; a refusal leaves `labels` as it was.
+pub fn load_day(file: &[u8], labels: &mut [u64; 256]) -> Loaded
     ensures { λ r. ⌜ (r ≡ loadedDay (now (file .entry))) × (now (labels .exit) ≡ dayWords (now (file .entry)) (now (labels .entry))) ⌝ }
 {
     if !size_ok(file.len()) {

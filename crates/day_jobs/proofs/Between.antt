@@ -13,7 +13,7 @@ use Rattle.model.specs.Running.{runs, startControl, startStore}
 use Rattle.model.proofs.Kept.{Fresh, Kept, shell, run-kept}
 use Rattle.model.proofs.Start.{length-inputs, length-slots, start-fresh}
 use Rattle.model.proofs.Reached.{anyLabel}
-use Rattle.file_sections.specs.Sections.{recordBytesOf, inputsOf}
+use Rattle.file_sections.specs.Sections.{recordBytesOf, inputsOver}
 use Rattle.noninterference.proofs.Accepted.{every-label}
 use Rattle.day_file.specs.declared.Job.{Job}
 use Rattle.day_file.specs.Sections.{dayHeader, daySections, dayLabel, dayInputs, span}
@@ -38,7 +38,7 @@ shell-none (Full r) e = cc
 
 module _ (bs : List ℕ) where
   pub count-inputs : length (dayInputs bs) ≡ dayHeader bs .records .count
-  unfolding inputsOf
+  unfolding inputsOver
   count-inputs = length-inputs (dayLabel bs) (recordBytesOf (daySections bs) bs) (dayHeader bs .records .count) 0
 
   pub job-fresh : (j : Job) (σ : Store) → j .places ≤ 256 → Free (dayHeader bs .records .count) σ → Fresh (jobAccount bs j) σ

@@ -10,7 +10,7 @@ use Rattle.model.specs.Inputs.{inputs}
 use Rattle.model.specs.Running.{runs, programOf, startControl, startAccount}
 use Rattle.model.specs.Words.{labelIn}
 use Rattle.operands.specs.Program.{count, program}
-use Rattle.file_sections.specs.Sections.{recordBytesOf, inputsOf}
+use Rattle.file_sections.specs.Sections.{recordBytesOf, inputsOver}
 use Rattle.day_file.specs.declared.Header.{Header}
 use Rattle.day_file.specs.declared.Job.{Job}
 use Rattle.day_file.specs.Sections.{daySections, dayLabel, jobFrom, span}
@@ -47,7 +47,7 @@ module _ (bs : List ℕ) (h : Header) (ws : List ℕ) (w : DayLoads bs h ws) whe
 
   module _ (j : Job) where
     program-is : program (spanIn h bs j) ws (recordsIn h bs) ≡ jobProgram bs j
-    unfolding program jobProgram inputsOf
+    unfolding program jobProgram inputsOver
     program-is =
         rw (span-in bs h (w .numbers) j, labels-are, counted, records-are)
         (ap (λ (g : Header). programOf (span bs j) (dayLabel bs) (inputs (dayLabel bs) (recordBytesOf (daySections bs) bs) (g .records .count) 0)) (w .numbers))

@@ -9,6 +9,7 @@ use model::Slot;
 use store::PLACES;
 ghost use mathlib.Core.Path.{_≡_};
 ghost use lib.ListN.{length, set};
+ghost use Rattle.model.specs.Words.{fileWords};
 ghost use Rattle.model.specs.State.{at as slotAt};
 ghost use Rattle.store.specs.Slots.{words, slots};
 ghost use Rattle.machine.specs.Steps.{Finishes};
@@ -87,7 +88,7 @@ pub fn end_job(store: &mut [u64], count: usize)
 
 // Runs a job of a day that loads, on the store as the job before left it.
 pub fn run_job(file: &[u8], h: Header, labels: &[u64], job: Job, store: &mut [u64]) -> Finished
-    requires { ⌜ DayLoads (now file) h (now labels) × (length (now labels) ≡ 64) × (length (now store) ≡ words) × Runnable h job (now file) ⌝ }
+    requires { ⌜ DayLoads (now file) h (now labels) × (length (now labels) ≡ fileWords) × (length (now store) ≡ words) × Runnable h job (now file) ⌝ }
     ensures { λ r. ⌜ Finishes r (slots (now (store .exit))) (jobRun (now (file .entry)) job (slots (now (store .entry)))) ⌝ }
 {
     let records = h.records;

@@ -28,13 +28,13 @@ use Rattle.day_lines.specs.Lines.{dayLines}
 
 -- ── a line ──
 
--- 13 fields, the last without a space but with a line feed, and two digits for each of 62 bytes
-pub skipped-line : length (line skippedView) ≡ 137
+-- 13 fields, the last without a space but with a line feed, and two digits for each of 206 bytes
+pub skipped-line : length (line skippedView) ≡ 425
 unfolding skippedView littleEndian u16 line frontFields widths spaced hex
 skipped-line = refl
 
--- a buffer of 62 bytes holds the view of a skipped job and nothing else
-pub skipped-alone : over skippedView (replicate 62 0) ≡ skippedView
+-- a buffer of 206 bytes holds the view of a skipped job and nothing else
+pub skipped-alone : over skippedView (replicate 206 0) ≡ skippedView
 unfolding over skippedView littleEndian
 skipped-alone = refl
 

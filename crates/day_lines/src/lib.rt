@@ -9,6 +9,7 @@ use view::RECORDS;
 ghost use mathlib.Core.Path.{_≡_};
 ghost use Prim.Native.Nat.{_≤_};
 ghost use lib.ListN.{length};
+ghost use Rattle.model.specs.Words.{fileWords};
 ghost use Rattle.store.specs.Slots.{words};
 ghost use Rattle.view_fields.specs.Writing.{over};
 ghost use Rattle.view.specs.Writing.{observes};
@@ -55,7 +56,7 @@ pub fn write_day_lines(
     reader: usize,
     out: &mut [u8],
 ) -> usize
-    requires { ⌜ DayLoads (now file) h (now labels) × (length (now labels) ≡ 64) × Kept (now file) (ends .jobs) (now stores) × (length (now stores) ≡ storesWords) × (mostDayLines ≤ length (now out)) ⌝ }
+    requires { ⌜ DayLoads (now file) h (now labels) × (length (now labels) ≡ fileWords) × Kept (now file) (ends .jobs) (now stores) × (length (now stores) ≡ storesWords) × (mostDayLines ≤ length (now out)) ⌝ }
     ensures { λ r. ⌜ (r ≡ length (dayLines (now (file .entry)) reader)) × (now (out .exit) ≡ over (dayLines (now (file .entry)) reader) (now (out .entry))) ⌝ }
 {
     let jobs = h.jobs;

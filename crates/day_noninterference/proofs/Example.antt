@@ -11,8 +11,9 @@ use native.Mathlib.Omega.{arith}
 use lib.ListN.{set, replicate, length-set}
 use lib.Seq.{getD-set-other}
 use Rattle.formulas.specs.Formula.{holds, table, implies}
+use Rattle.labels.specs.Tables.{tableImplies}
 use Rattle.labels.specs.Order.{flowTest, flows, join}
-use Rattle.label_entries.specs.Entries.{wellFormed, readEntry}
+use Rattle.label_entries.specs.Entries.{wellFormedOver, readEntryOver}
 use Rattle.model.specs.State.{shown}
 use Rattle.model.specs.Decoding.{byte, u16, u32, operandBytes, known, size, instrs, fetch, after}
 use Rattle.model.specs.Operands.{popFrom, asNumber, asLabel, asHandle, asSealed, asReference, arity, dropFrame, operate, plan}
@@ -20,12 +21,12 @@ use Rattle.model.specs.Effects.{failTo, yield, openSlot, labelSlot, writeSlot, 
 use Rattle.model.specs.Inputs.{inputs, handles, inputSlots}
 use Rattle.model.specs.Running.{perform, step, resume, pay, run, runs, startStore}
 use Rattle.code_check.specs.Sweep.{sweep, starts, operandsOk, instrOk, mayBeLast, codeOk}
-use Rattle.file_sections.specs.Sections.{readLabels, inputsOf, labelBytesOf, labelOf, labelsOf, recordBytesOf}
+use Rattle.file_sections.specs.Sections.{labelBytesOf, recordBytesOf, labelsOver, readLabelsOver, inputsOver, labelOfOver}
 use Rattle.file_sections.specs.Checks.{every, recordsOk}
 use Rattle.day_file.specs.Sections.{dayHeader, daySections, dayLabel, jobFrom, jobsFrom, span}
 use Rattle.day_file.specs.Checks.{sizeOk, countsOk, offsetsOk, jobOk, jobsOk, spanOk, passes1, passes2, passes3, passes4, passes6, passes7, passes10, dayRefusal}
 use Rattle.view_fields.specs.Fields.{littleEndian, labelField, datumField, contentsField, endingNumber, resultField, kindByte, recordField}
-use Rattle.view.specs.Layout.{slotField, recordFields, recordsShown, counts, final, viewLength, view}
+use Rattle.view.specs.Layout.{slotField, recordFields, recordsShown, counts, final, lengthOver, viewOver}
 use Rattle.day_jobs.specs.JobEnd.{keptDatum, keptContents, keptSlot, endSlot, endFrom}
 use Rattle.admission.specs.Admission.{fits, rest, allowed, leftAfter, admitted, dayAdmitted}
 use Rattle.day_jobs.specs.Running.{jobProgram, jobAccount, jobRun, storeAfter, turns, dayTurns}
@@ -58,23 +59,23 @@ day n = set template 27 n
 
 -- the reference as both jobs leave it: place 1, a reference, public, the number 42
 abbrev reference : List ℕ
-reference = 1 ∷ 1 ∷ replicate 16 0xFF ++ 1 ∷ 0 ∷ 42 ∷ replicate 15 0
+reference = 1 ∷ 1 ∷ replicate 64 0xFF ++ 1 ∷ 0 ∷ 42 ∷ replicate 63 0
 
 -- What the public reader is shown of either. Job 1: result, 11 steps (a BLOCK's 5 among them), next place 3, one record; the
 -- handle to the sealed outcome at place 2. Job 2: result, 3 steps, next place 2, one record; the number 42. Job 3: skipped.
 unfoldable pub publicViews : List ℕ
 publicViews =
-    (1 ∷ 0 ∷ 11 ∷ 0 ∷ 3 ∷ 0 ∷ 1 ∷ 0 ∷ 62 ∷ 0 ∷ 98 ∷ 0
-    ∷ 3 ∷ 0 ∷ 2 ∷ replicate 15 0
-    ++ replicate 16 0xFF
-    ++ replicate 8 0xAA ++ replicate 8 0xFF
+    (1 ∷ 0 ∷ 11 ∷ 0 ∷ 3 ∷ 0 ∷ 1 ∷ 0 ∷ 206 ∷ 0 ∷ 82 ∷ 1
+    ∷ 3 ∷ 0 ∷ 2 ∷ replicate 63 0
+    ++ replicate 64 0xFF
+    ++ replicate 32 0xAA ++ replicate 32 0xFF
     ++ reference)
-    ++ (1 ∷ 0 ∷ 3 ∷ 0 ∷ 2 ∷ 0 ∷ 1 ∷ 0 ∷ 62 ∷ 0 ∷ 98 ∷ 0
-    ∷ 1 ∷ 0 ∷ 42 ∷ replicate 15 0
-    ++ replicate 16 0xFF
-    ++ replicate 16 0xFF
+    ++ (1 ∷ 0 ∷ 3 ∷ 0 ∷ 2 ∷ 0 ∷ 1 ∷ 0 ∷ 206 ∷ 0 ∷ 82 ∷ 1
+    ∷ 1 ∷ 0 ∷ 42 ∷ replicate 63 0
+    ++ replicate 64 0xFF
+    ++ replicate 64 0xFF
     ++ reference)
-    ++ (4 ∷ 0 ∷ 0 ∷ 0 ∷ 0 ∷ 0 ∷ 0 ∷ 0 ∷ 62 ∷ 0 ∷ 62 ∷ 0 ∷ replicate 50 0)
+    ++ (4 ∷ 0 ∷ 0 ∷ 0 ∷ 0 ∷ 0 ∷ 0 ∷ 0 ∷ 206 ∷ 0 ∷ 206 ∷ 0 ∷ replicate 194 0)
 
 -- by running both days, from bytes to views
 pub record Computed : Type 0 where
@@ -86,12 +87,12 @@ pub record Computed : Type 0 where
   pub hides : flows (inputLabel (daySections (day 7)) (day 7) 0) (dayLabel (day 7) 0) ≡ false
   pub loads : dayRefusal (day 7) ≡ 0
   pub shows : dayView (day 7) 0 ≡ publicViews
-  -- byte 154 of what the reader ⟨player, True⟩ is shown is of the outcome's number: the block did open the record
-  pub opens-7 : byte (dayView (day 7) 1) 154 ≡ 7
-  pub opens-9 : byte (dayView (day 9) 1) 154 ≡ 9
+  -- byte 538 of what the reader ⟨player, True⟩ is shown is of the outcome's number: the block did open the record
+  pub opens-7 : byte (dayView (day 7) 1) 538 ≡ 7
+  pub opens-9 : byte (dayView (day 9) 1) 538 ≡ 9
 
 pub computed : Computed
-unfolding day template publicViews dayLegible holds table implies flowTest join wellFormed readEntry u16 u32 operandBytes known size instrs fetch after popFrom asNumber asLabel asHandle asSealed asReference arity dropFrame operate plan failTo yield openSlot labelSlot writeSlot contentsOf outcome act inputs handles inputSlots perform step resume pay run runs startStore dayHeader labelBytesOf recordBytesOf readLabels labelsOf labelOf sweep starts operandsOk instrOk mayBeLast codeOk every sizeOk countsOk offsetsOk recordsOk jobFrom jobsFrom span jobOk jobsOk spanOk passes1 passes2 passes3 passes4 passes6 passes7 passes10 dayRefusal inputsOf keptDatum keptContents keptSlot endSlot endFrom jobProgram jobAccount jobRun storeAfter fits rest allowed leftAfter admitted dayAdmitted turns dayTurns littleEndian labelField datumField contentsField endingNumber resultField kindByte recordField shown slotField recordFields recordsShown counts final viewLength view skippedView turnView eachTurn dayView
+unfolding day template publicViews dayLegible holds table implies tableImplies flowTest join wellFormedOver readEntryOver u16 u32 operandBytes known size instrs fetch after popFrom asNumber asLabel asHandle asSealed asReference arity dropFrame operate plan failTo yield openSlot labelSlot writeSlot contentsOf outcome act inputs handles inputSlots perform step resume pay run runs startStore dayHeader labelBytesOf recordBytesOf readLabelsOver labelsOver labelOfOver sweep starts operandsOk instrOk mayBeLast codeOk every sizeOk countsOk offsetsOk recordsOk jobFrom jobsFrom span jobOk jobsOk spanOk passes1 passes2 passes3 passes4 passes6 passes7 passes10 dayRefusal inputsOver keptDatum keptContents keptSlot endSlot endFrom jobProgram jobAccount jobRun storeAfter fits rest allowed leftAfter admitted dayAdmitted turns dayTurns littleEndian labelField datumField contentsField endingNumber resultField kindByte recordField shown slotField recordFields recordsShown counts final lengthOver viewOver skippedView turnView eachTurn dayView
 computed =
     record {
       legible-7 = refl;

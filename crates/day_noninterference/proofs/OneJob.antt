@@ -7,15 +7,15 @@ use borrow.Author.Tests.{le-leb}
 use Rattle.formulas.specs.Formula.{holds, table}
 use Rattle.labels.specs.Order.{flows}
 use Rattle.labels.specs.declared.Label.{Label}
-use Rattle.label_entries.specs.Entries.{wellFormed, readEntry}
+use Rattle.label_entries.specs.Entries.{wellFormedOver, readEntryOver}
 use Rattle.model.specs.Decoding.{u16, u32}
 use Rattle.model.specs.Inputs.{inputSlots}
 use Rattle.model.specs.Running.{startStore}
-use Rattle.file_sections.specs.Sections.{labelBytesOf, recordBytesOf, readLabels, labelsOf, labelOf, inputsOf}
+use Rattle.file_sections.specs.Sections.{labelBytesOf, recordBytesOf, labelsOver, readLabelsOver, inputsOver, labelOfOver}
 use Rattle.script_file.specs.Sections.{header, recordBytes, codeBytes, labelAt}
-use Rattle.script_file.specs.Program.{fileInputs, fileProgram, fileAccount, fileRun}
+use Rattle.script_file.specs.Program.{fileInputs, fileRun, fileAccountOver, fileProgramOver, fileRunOver}
 use Rattle.view.specs.Layout.{view}
-use Rattle.view.specs.Reading.{fileView}
+use Rattle.view.specs.Reading.{fileView, fileViewOver}
 use Rattle.day_file.specs.Sections.{dayHeader, daySections, dayLabel, dayInputs, dayJobs, jobFrom, jobsFrom, span}
 use Rattle.day_file.specs.declared.Job.{Job}
 use Rattle.admission.specs.Admission.{fits, allowed, admitted, dayAdmitted}
@@ -41,11 +41,11 @@ module _ (bs cs : List ℕ) (j : Job) (s : SameScript bs cs j) where
   same-label = fun-ext (s .labels)
 
   same-inputs : dayInputs bs ≡ fileInputs cs
-  unfolding inputsOf
+  unfolding inputsOver
   same-inputs = cc (same-label, s .records, s .count)
 
   same-run : jobRun bs j (startStore (inputSlots (dayInputs bs))) ≡ fileRun cs
-  unfolding jobRun jobProgram jobAccount fileRun fileProgram fileAccount
+  unfolding jobRun jobProgram jobAccount fileRunOver fileProgramOver fileAccountOver
   same-run = cc (same-label, same-inputs, s .count, s .code, s .steps, s .places, s .label, s .clearance)
 
   one-turn : dayTurns bs ≡ ran (j .steps) (jobRun bs j (startStore (inputSlots (dayInputs bs)))) ∷ []
@@ -53,7 +53,7 @@ module _ (bs cs : List ℕ) (j : Job) (s : SameScript bs cs j) where
   one-turn = rw (s .one-job, le-leb (j .steps) (dayHeader bs .steps) (s .admits))
 
   pub one-job-view : (i : ℕ) → dayView bs i ≡ fileView cs i
-  unfolding dayView eachTurn turnView fileView
+  unfolding dayView eachTurn turnView fileViewOver
   one-job-view i =
       ap (turnViews (λ l. flows l (dayLabel bs i))) one-turn
       ∙ append-nil (view (λ l. flows l (dayLabel bs i)) (j .steps) (jobRun bs j (startStore (inputSlots (dayInputs bs)))))
@@ -82,7 +82,7 @@ unfoldable pub plain : List ℕ
 plain = (2 ∷ 0 ∷ 16 ∷ 0 ∷ 1 ∷ 0 ∷ 21 ∷ 0 ∷ 13 ∷ 0 ∷ 27 ∷ 0 ∷ 20 ∷ 0 ∷ 2 ∷ 0 ∷ []) ++ labelsAndRecord ++ script
 
 pub same-script : SameScript oneJob plain (jobFrom oneJob 31)
-unfolding oneJob plain dayHeader header u16 u32 jobFrom jobsFrom labelOf labelsOf labelBytesOf recordBytesOf readLabels readEntry wellFormed table holds span codeBytes
+unfolding oneJob plain dayHeader header u16 u32 jobFrom jobsFrom labelOfOver labelsOver labelBytesOf recordBytesOf readLabelsOver readEntryOver wellFormedOver table holds span codeBytes
 same-script =
     record {
       one-job = refl;

@@ -8,6 +8,7 @@ use libc::STDOUT_FILENO;
 ghost use mathlib.Core.Path.{_≡_};
 ghost use Prim.Native.Nat.{_≤_, _<_};
 ghost use lib.ListN.{length};
+ghost use Rattle.model.specs.Words.{fileWords};
 ghost use Rattle.day_file.specs.Parts.{DayLoads};
 ghost use Rattle.day_turns.specs.Keeping.{storesWords, Kept};
 ghost use Rattle.day_lines.specs.Room.{mostDayLines};
@@ -29,7 +30,7 @@ fn print_labels(
     stores: &[u64],
     out: &mut [u8],
 ) -> bool
-    requires { ⌜ DayLoads (now file) h (now labels) × (length (now labels) ≡ 64) × Kept (now file) (ends .jobs) (now stores) × (length (now stores) ≡ storesWords) × (mostDayLines ≤ length (now out)) ⌝ }
+    requires { ⌜ DayLoads (now file) h (now labels) × (length (now labels) ≡ fileWords) × Kept (now file) (ends .jobs) (now stores) × (length (now stores) ≡ storesWords) × (mostDayLines ≤ length (now out)) ⌝ }
 {
     let listed = h.labels;
     let count = listed.count;
@@ -46,7 +47,7 @@ fn print_labels(
 
 // Prints the lines of a day, and tells whether all of them were written.
 pub fn print_day(file: &[u8]) -> bool {
-    let mut labels = [0u64; 64];
+    let mut labels = [0u64; 256];
     let loaded = day_file::load_day(file, &mut labels);
     match loaded {
         Loaded::Refused(n) => print_refused(n as u8),

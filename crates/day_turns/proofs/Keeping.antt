@@ -2,15 +2,18 @@
 use mathlib.Core.Bool.{Bool, true, false}
 use mathlib.Core.List.{List, _∷_, _++_}
 use mathlib.Core.Logic.{⊎-elim}
-use mathlib.Core.Path.{_≡_, sym, ap, subst, _∙_}
+use mathlib.Core.Path.{_≡_, sym, ap, ap₂, subst, _∙_}
 use Prim.Native.Nat.{ℕ, _+_, _*_, _≤_, _<_}
 use native.Mathlib.Omega.{arith}
 use lib.ListN.{length, getD, take, drop, set, replicate, length-set, length-replicate, getD-replicate, length-drop}
 use lib.Seq.{getD-set-same, getD-set-other}
 use Rattle.formulas.proofs.Tests.{lt-or-ge}
+use Rattle.labels.specs.Order.{noLabel}
 use Rattle.labels.specs.declared.Label.{Label}
 use Rattle.model.specs.Inputs.{inputSlots}
 use Rattle.model.specs.Running.{startStore}
+use Rattle.model.specs.declared.Datum.the-variants.{Number}
+use Rattle.model.specs.declared.Ending.the-variants.{Result}
 use Rattle.model.specs.declared.Finished.{Finished}
 use Rattle.machine.specs.Steps.{Finishes}
 use Rattle.store.specs.Slots.{words, slots}
@@ -28,6 +31,10 @@ use Rattle.day.proofs.Views.{served-view}
 use Rattle.day_turns.specs.Keeping.{storesWords, none, turnOf, storeAt, Kept}
 use Rattle.day_turns.specs.declared.JobEnd.{JobEnd}
 use Rattle.day_turns.proofs.Stores.{at-within, at-is, behind-is, store-before, store-here}
+
+-- the end of a job that did not run, with these labels
+abbrev unrun : Label → Label → JobEnd
+unrun a b = record { ran = false; finish = record { ending = Result (Number 0); label = a; clearance = b; steps = 0; next = 0 } }
 
 module _ (bs : List ℕ) where
   abbrev n : ℕ
@@ -66,10 +73,11 @@ module _ (bs : List ℕ) where
     pub rest : drop k (dayTurns bs) ≡ turnsLeft k left store
     pub kept : (j : ℕ) → j < k → KeptAt ends stores j
 
-  pub none-kept : (stores store : List ℕ) (callers : List Allowance) → callers ≡ allowancesOf (dayHeader bs .steps) → length stores ≡ storesWords → length store ≡ words
-      → slots store ≡ startStore (inputSlots (dayInputs bs)) → Keeping (replicate 16 none) stores store callers 0
+  pub none-kept : {a b : Label} → a ≡ noLabel → b ≡ noLabel
+      → (stores store : List ℕ) (callers : List Allowance) → callers ≡ allowancesOf (dayHeader bs .steps) → length stores ≡ storesWords → length store ≡ words
+      → slots store ≡ startStore (inputSlots (dayInputs bs)) → Keeping (replicate 16 (unrun a b)) stores store callers 0
   unfolding dayTurns dayAdmitted
-  none-kept stores store callers e r z s =
+  none-kept {a} {b} f g stores store callers e r z s =
       record {
         left = allowed (dayHeader bs .steps);
         allowances = rw e (at-first (dayHeader bs .steps));
@@ -77,8 +85,8 @@ module _ (bs : List ℕ) where
         enough = omega arith;
         size = z;
         room = r;
-        as-many = length-replicate 16 none;
-        fresh = λ j _ h. getD-replicate 16 j none none h;
+        as-many = length-replicate 16 (unrun a b);
+        fresh = λ j _ h. getD-replicate 16 j (unrun a b) none h ∙ ap₂ unrun f g;
         rest = rw (s, all-left bs first n);
         kept = λ j h. absurd (omega arith);
       }

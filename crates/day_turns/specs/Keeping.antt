@@ -4,6 +4,7 @@ use mathlib.Core.List.{List}
 use mathlib.Core.Path.{_≡_}
 use Prim.Native.Nat.{ℕ, _+_, _*_, _<_}
 use lib.ListN.{length, getD, take, drop}
+use Rattle.labels.specs.Order.{noLabel}
 use Rattle.labels.specs.declared.Label.{Label}
 use Rattle.model.specs.declared.Datum.the-variants.{Number}
 use Rattle.model.specs.declared.Ending.the-variants.{Result}
@@ -16,14 +17,14 @@ use Rattle.day_turns.specs.declared.JobEnd.{JobEnd}
 
 -- the words of 16 stores
 abbrev pub storesWords : ℕ
-storesWords = 24576
+storesWords = 16 * words
 
 -- the end of a job that was skipped, of which nothing but `ran` is looked at
 abbrev pub none : JobEnd
 none =
     record {
       ran = false;
-      finish = record { ending = Result (Number 0); label = record { secrecy = 0; integrity = 0 }; clearance = record { secrecy = 0; integrity = 0 }; steps = 0; next = 0 };
+      finish = record { ending = Result (Number 0); label = noLabel; clearance = noLabel; steps = 0; next = 0 };
     }
 
 -- the turn of a job that declares s steps, by how it ended and the words of the store that it left

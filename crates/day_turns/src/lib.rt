@@ -9,6 +9,7 @@ use model::Finished;
 use store::STORE;
 ghost use mathlib.Core.Path.{_≡_};
 ghost use lib.ListN.{length};
+ghost use Rattle.model.specs.Words.{fileWords};
 ghost use Rattle.store.specs.Slots.{words, slots};
 ghost use Rattle.machine.specs.Steps.{Finishes};
 ghost use Rattle.day_file.specs.Parts.{DayLoads};
@@ -50,7 +51,7 @@ fn keep_job(
     store: &mut [u64],
     kept: &mut [u64],
 ) -> Finished
-    requires { ⌜ DayLoads (now file) h (now labels) × (length (now labels) ≡ 64) × (length (now store) ≡ words) × Runnable h job (now file) × (length (now kept) ≡ words) ⌝ }
+    requires { ⌜ DayLoads (now file) h (now labels) × (length (now labels) ≡ fileWords) × (length (now store) ≡ words) × Runnable h job (now file) × (length (now kept) ≡ words) ⌝ }
     ensures { λ r. ⌜ Finishes r (slots (now (kept .exit))) (jobRun (now (file .entry)) job (slots (now (store .entry)))) × (slots (now (store .exit)) ≡ storeAfter (now (file .entry)) job (slots (now (store .entry)))) ⌝ }
 {
     let records = h.records;
@@ -62,7 +63,7 @@ fn keep_job(
 
 // Runs the jobs one behind the other, each on the store that the one before left, and keeps what each comes to.
 pub fn run_day(file: &[u8], h: Header, labels: &[u64], stores: &mut [u64]) -> Ends
-    requires { ⌜ DayLoads (now file) h (now labels) × (length (now labels) ≡ 64) × (length (now stores) ≡ storesWords) ⌝ }
+    requires { ⌜ DayLoads (now file) h (now labels) × (length (now labels) ≡ fileWords) × (length (now stores) ≡ storesWords) ⌝ }
     ensures { λ r. ⌜ Kept (now (file .entry)) (r .jobs) (now (stores .exit)) ⌝ }
 {
     let records = h.records;
@@ -76,14 +77,8 @@ pub fn run_day(file: &[u8], h: Header, labels: &[u64], stores: &mut [u64]) -> En
         ran: false,
         finish: Finished {
             ending: Ending::Result(Datum::Number(0)),
-            label: Label {
-                secrecy: 0,
-                integrity: 0,
-            },
-            clearance: Label {
-                secrecy: 0,
-                integrity: 0,
-            },
+            label: labels::no_label(),
+            clearance: labels::no_label(),
             steps: 0,
             next: 0,
         },

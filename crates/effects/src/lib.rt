@@ -18,6 +18,7 @@ use operands::Origin;
 ghost use mathlib.Core.Path.{_≡_};
 ghost use Prim.Native.Nat.{_^_, _≤_, _<_};
 ghost use lib.ListN.{length, set};
+ghost use Rattle.model.specs.Words.{fileWords};
 ghost use Rattle.model.specs.State.{at};
 ghost use Rattle.model.specs.Effects.{holding};
 ghost use Rattle.store.specs.Slots.{words, slots};
@@ -288,7 +289,7 @@ pub fn on_labels(t: LabelTask, y: Datum, x: Datum, a: Account, store: &[u64]) ->
 
 // The label that is to be pushed.
 pub fn label_from(o: Origin, label: Label, clearance: Label, labels: &[u64], store: &[u64]) -> Label
-    requires { ⌜ (length (now labels) < 2 ^ 32) × (length (now store) ≡ words) ⌝ }
+    requires { ⌜ (length (now labels) ≡ fileWords) × (length (now store) ≡ words) ⌝ }
     ensures { λ r. ⌜ r ≡ labelFrom o label clearance (now (labels .entry)) (slots (now (store .entry))) ⌝ }
 {
     match o {

@@ -11,8 +11,8 @@ use Rattle.labels.specs.declared.Label.{Label}
 use Rattle.model.specs.State.{Outcome}
 use Rattle.script_file.specs.Sections.{header, labelAt}
 use Rattle.script_file.specs.Program.{fileRun}
-use Rattle.view.specs.Layout.{recordsShown, viewLength, view}
-use Rattle.view.specs.Reading.{fileView}
+use Rattle.view.specs.Layout.{recordsShown, view, lengthOver}
+use Rattle.view.specs.Reading.{fileView, fileViewOver}
 use Rattle.view.proofs.Widths.{length-view}
 use Rattle.view.proofs.LengthField.{count-field, shown-most}
 use Rattle.lines.specs.Lines.{line, lines}
@@ -24,11 +24,11 @@ use Rattle.file_lines.specs.Room.{longestLine}
 
 module _ (Reads : Label → Bool) where
   module _ (s : ℕ) (o : Outcome) where
-    long : length (view Reads s o) ≡ 62 + 36 * recordsShown Reads (o .store)
-    unfolding viewLength
+    long : length (view Reads s o) ≡ 206 + 132 * recordsShown Reads (o .store)
+    unfolding lengthOver
     long = length-view Reads s o
 
-    whole : Cut (62 + 36 * recordsShown Reads (o .store)) (view Reads s o) (length (view Reads s o))
+    whole : Cut (206 + 132 * recordsShown Reads (o .store)) (view Reads s o) (length (view Reads s o))
     whole =
         record {
           within = le-refl (length (view Reads s o));
@@ -46,7 +46,7 @@ module _ (Reads : Label → Bool) where
 -- ── the lines of a file ──
 
 pub lines-most : (bs : List ℕ) → length (fileRun bs .store) ≤ 256 → (n i : ℕ) → length (lines bs n i) ≤ longestLine * n
-unfolding lines fileView
+unfolding lines fileViewOver
 lines-most bs le zero i = omega arith
 lines-most bs le (suc n) i =
     let a = length-append (line (fileView bs i)) (lines bs n (suc i)) in

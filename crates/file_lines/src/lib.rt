@@ -10,6 +10,7 @@ use view::LONGEST;
 ghost use mathlib.Core.Path.{_≡_};
 ghost use Prim.Native.Nat.{_≤_};
 ghost use lib.ListN.{length};
+ghost use Rattle.model.specs.Words.{fileWords};
 ghost use Rattle.store.specs.Slots.{words, slots};
 ghost use Rattle.script_file.specs.Sections.{header};
 ghost use Rattle.view.specs.Layout.{view as viewOf};
@@ -44,7 +45,7 @@ pub fn write_shown(
 
 // Runs a file that loads, writes a line for each of its labels, and gives how many bytes that is.
 fn write_lines(file: &[u8], h: Header, labels: &[u64], out: &mut [u8]) -> usize
-    requires { ⌜ Loads (now file) h (now labels) × (length (now labels) ≡ 64) × (mostPrinted ≤ length (now out)) ⌝ }
+    requires { ⌜ Loads (now file) h (now labels) × (length (now labels) ≡ fileWords) × (mostPrinted ≤ length (now out)) ⌝ }
     ensures { λ r. ⌜ (r ≡ length (linesOf (now (file .entry)) (header (now (file .entry)) .labels .count) 0)) × (now (out .exit) ≡ over (linesOf (now (file .entry)) (header (now (file .entry)) .labels .count) 0) (now (out .entry))) ⌝ }
 {
     let mut store = [0u64; STORE];
@@ -67,7 +68,7 @@ pub fn write_printed(file: &[u8], out: &mut [u8]) -> usize
     requires { ⌜ mostPrinted ≤ length (now out) ⌝ }
     ensures { λ r. ⌜ (r ≡ length (printed (now (file .entry)))) × (now (out .exit) ≡ over (printed (now (file .entry))) (now (out .entry))) ⌝ }
 {
-    let mut labels = [0u64; 64];
+    let mut labels = [0u64; 256];
     let loaded = script_file::load(file, &mut labels);
     match loaded {
         Loaded::Refused(why) => lines::write_refused(script_file::number(why) as u8, out),

@@ -6,7 +6,7 @@ use Prim.Native.Nat.{ℕ, zero, suc, _+_}
 use lib.Dec.{leb, ltb}
 use Rattle.labels.specs.declared.Label.{Label}
 use Rattle.model.specs.Decoding.{byte}
-use Rattle.file_sections.specs.Sections.{Sections, labelsOf, recordBytesOf}
+use Rattle.file_sections.specs.Sections.{Sections, labelsOver, recordBytesOf}
 
 -- every test of a list holds
 unfoldable pub every : List Bool → Bool
@@ -18,8 +18,8 @@ abbrev pub present : Option (List Label) → Bool
 present none = false
 present (some ls) = true
 
-abbrev pub labelsPass : Sections → List ℕ → Bool
-labelsPass s bs = present (labelsOf s bs)
+abbrev pub labelsPass : ℕ → Sections → List ℕ → Bool
+labelsPass n s bs = present (labelsOver n s bs)
 
 -- 6: "A record's kind above 1 or label index L or more", of n records from byte i on
 unfoldable pub recordsOk : ℕ → List ℕ → ℕ → ℕ → Bool

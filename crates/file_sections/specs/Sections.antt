@@ -3,7 +3,9 @@ use mathlib.Core.List.{List, [], _∷_}
 use mathlib.Core.Option.{Option, none, some}
 use Prim.Native.Nat.{ℕ, zero, suc, _+_, _-_, _*_}
 use lib.ListN.{getD, take, drop}
-use Rattle.label_entries.specs.Entries.{readEntry}
+use Rattle.labels.specs.Tables.{principals}
+use Rattle.labels.specs.Order.{noLabel}
+use Rattle.label_entries.specs.Entries.{readEntryOver}
 use Rattle.labels.specs.declared.Label.{Label}
 use Rattle.label_entries.specs.declared.Entry.{Entry}
 use Rattle.label_entries.specs.declared.Entry.the-variants.{Read, Malformed}
@@ -41,23 +43,35 @@ abbrev noneLeft : List ℕ → Option (List Label)
 noneLeft [] = some []
 noneLeft (b ∷ bs) = none
 
--- n label entries, and no byte behind them
-unfoldable pub readLabels : ℕ → List ℕ → Option (List Label)
-readLabels zero bs = noneLeft bs
-readLabels (suc n) bs = labelsAfter (λ k. readLabels n (drop k bs)) (readEntry bs)
+-- k label entries over n principals, and no byte behind them
+unfoldable pub readLabelsOver : ℕ → ℕ → List ℕ → Option (List Label)
+readLabelsOver n zero bs = noneLeft bs
+readLabelsOver n (suc k) bs = labelsAfter (λ i. readLabelsOver n k (drop i bs)) (readEntryOver n bs)
 
-unfoldable pub labelsOf : Sections → List ℕ → Option (List Label)
-labelsOf s bs = readLabels (s .labels) (labelBytesOf s bs)
+abbrev pub readLabels : ℕ → List ℕ → Option (List Label)
+readLabels = readLabelsOver principals
+
+unfoldable pub labelsOver : ℕ → Sections → List ℕ → Option (List Label)
+labelsOver n s bs = readLabelsOver n (s .labels) (labelBytesOf s bs)
+
+abbrev pub labelsOf : Sections → List ℕ → Option (List Label)
+labelsOf = labelsOver principals
 
 abbrev pub orNone : Option (List Label) → List Label
 orNone none = []
 orNone (some ls) = ls
 
 -- label i of a file; past its labels, and of a file whose labels are malformed, ⟨False, False⟩
-unfoldable pub labelOf : Sections → List ℕ → ℕ → Label
-labelOf s bs i = getD (orNone (labelsOf s bs)) i (record { secrecy = 0; integrity = 0 })
+unfoldable pub labelOfOver : ℕ → Sections → List ℕ → ℕ → Label
+labelOfOver n s bs i = getD (orNone (labelsOver n s bs)) i noLabel
+
+abbrev pub labelOf : Sections → List ℕ → ℕ → Label
+labelOf = labelOfOver principals
 
 -- ── input records ──
 
-unfoldable pub inputsOf : Sections → List ℕ → List Input
-inputsOf s bs = inputs (labelOf s bs) (recordBytesOf s bs) (s .records .count) 0
+unfoldable pub inputsOver : ℕ → Sections → List ℕ → List Input
+inputsOver n s bs = inputs (labelOfOver n s bs) (recordBytesOf s bs) (s .records .count) 0
+
+abbrev pub inputsOf : Sections → List ℕ → List Input
+inputsOf = inputsOver principals

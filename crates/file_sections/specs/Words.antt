@@ -4,16 +4,21 @@ use mathlib.Core.List.{List, [], _∷_}
 use mathlib.Core.Option.{Option}
 use Prim.Native.Nat.{ℕ, zero, suc, _<_, _^_}
 use lib.Dec.{eqb}
+use Rattle.labels.specs.declared.Table.{Table}
 use Rattle.labels.specs.declared.Label.{Label}
+use Rattle.model.specs.Words.{fileWords}
 use Rattle.file_sections.specs.Sections.{orNone}
 use Rattle.file_sections.specs.Checks.{present}
 use Rattle.file_sections.specs.declared.Section.{Section}
-use Rattle.file_sections.specs.declared.Table.{Table}
+use Rattle.file_sections.specs.declared.FileLabels.{FileLabels}
 
--- label i at words 2 i and 2 i + 1
+abbrev tableWords : Table → List ℕ → List ℕ
+tableWords t ws = t .word0 ∷ t .word1 ∷ t .word2 ∷ t .word3 ∷ ws
+
+-- label i at the eight words from 8 i on
 abbrev pub tables : List Label → List ℕ
 tables [] = []
-tables (l ∷ ls) = l .secrecy ∷ (l .integrity ∷ tables ls)
+tables (l ∷ ls) = tableWords (l .secrecy) (tableWords (l .integrity) (tables ls))
 
 -- n words of a list: 0 behind its end
 abbrev pub padded : ℕ → List ℕ → List ℕ
@@ -22,15 +27,15 @@ padded (suc n) [] = 0 ∷ padded n []
 padded (suc n) (x ∷ xs) = x ∷ padded n xs
 
 unfoldable pub labelWords : List Label → List ℕ
-labelWords ls = padded 64 (tables ls)
+labelWords ls = padded fileWords (tables ls)
 
 -- what stands in lent words afterwards: the labels of a file that no check stops (its refusal is 0), else what stood there
 abbrev pub wordsLent : ℕ → Option (List Label) → List ℕ → List ℕ
 wordsLent refusal o ws = cond (eqb refusal 0) (labelWords (orNone o)) ws
 
 -- the labels that a section gives, none where it is malformed
-abbrev pub tableOf : Option (List Label) → Table
-tableOf o = record { whole = present o; words = labelWords (orNone o) }
+abbrev pub labelsFound : Option (List Label) → FileLabels
+labelsFound o = record { whole = present o; words = labelWords (orNone o) }
 
 -- a section's numbers are 16 bits wide
 pub record Short (s : Section) : Type 0 where

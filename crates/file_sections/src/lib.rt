@@ -5,7 +5,7 @@ ghost use Prim.Native.Nat.{_≤_, _<_, _^_};
 ghost use Rattle.model.specs.Decoding.{u16};
 ghost use Rattle.file_sections.specs.Sections.{section, readLabels};
 ghost use Rattle.file_sections.specs.Checks.{recordsOk};
-ghost use Rattle.file_sections.specs.Words.{Short, tableOf};
+ghost use Rattle.file_sections.specs.Words.{Short, labelsFound};
 use label_entries::Entry;
 
 // A section of the file: how many entries (of the code: bytes) it has, and where it starts.
@@ -14,10 +14,10 @@ pub struct Section {
     pub offset: usize,
 }
 
-// The labels of a file: label i at words 2 i and 2 i + 1. Zeros where the section is malformed.
-pub struct Table {
+// The labels of a file: label i at the eight words from 8 i on. Zeros where the section is malformed.
+pub struct FileLabels {
     pub whole: bool,
-    pub words: [u64; 64],
+    pub words: [u64; 256],
 }
 
 // ---- the header
@@ -42,34 +42,33 @@ pub fn section_at(file: &[u8], i: usize) -> Section
 // ---- labels
 
 // Check 4: `count` entries, and no byte behind them.
-pub fn read_labels(bytes: &[u8], count: usize) -> Table
+pub fn read_labels(bytes: &[u8], count: usize) -> FileLabels
     requires { ⌜ count ≤ 32 ⌝ }
-    ensures { λ r. ⌜ r ≡ tableOf (readLabels count (now (bytes .entry))) ⌝ }
+    ensures { λ r. ⌜ r ≡ labelsFound (readLabels count (now (bytes .entry))) ⌝ }
 {
-    let mut words = [0u64; 64];
+    let mut words = [0u64; 256];
     let mut at: usize = 0;
     let mut i: usize = 0;
     while i < count {
         let Entry::Read(l, k) = label_entries::read_entry(&bytes[at..]) else {
             return no_labels();
         };
-        words[2 * i] = l.secrecy;
-        words[2 * i + 1] = l.integrity;
+        labels::put_label(l, &mut words, 8 * i);
         at += k;
         i += 1;
     }
     if at == bytes.len() {
-        return Table { whole: true, words };
+        return FileLabels { whole: true, words };
     }
     no_labels()
 }
 
-fn no_labels() -> Table
-    ensures { λ r. ⌜ r ≡ tableOf none ⌝ }
+fn no_labels() -> FileLabels
+    ensures { λ r. ⌜ r ≡ labelsFound none ⌝ }
 {
-    Table {
+    FileLabels {
         whole: false,
-        words: [0u64; 64],
+        words: [0u64; 256],
     }
 }
 

@@ -7,7 +7,7 @@ use native.Mathlib.Nat.{le-of-suc-le-suc, not-suc-le-zero, zero-lt-suc, min-zero
 use native.Mathlib.Omega.{arith}
 use lib.Bits.{bitAnd, bitOr, and-step, or-step, and-shr, or-shr}
 use lib.Arith.{digits-mod}
-use lib.Pow.{shr-shr, pow-mono}
+use lib.Pow.{shr-shr, field, mod-mod-pow, pow-mono}
 use Rattle.formulas.specs.Bits.{nonzero, digit, bit, fromBits}
 
 -- ---- one digit
@@ -66,6 +66,20 @@ bit-or a b i =
     ap (λ (x : ℕ). nonzero (x % 2)) (or-shr a b i ∙ or-step (a / 2 ^ i) (b / 2 ^ i))
     ∙ ap nonzero (digits-mod (bitOr (a / 2 ^ i / 2) (b / 2 ^ i / 2)) (omega arith))
     ∙ nonzero-max (a / 2 ^ i % 2) (b / 2 ^ i % 2)
+
+-- the digits from place k on
+pub bit-shift : (t k i : ℕ) → bit (t / 2 ^ k) i ≡ bit t (k + i)
+unfolding bit
+bit-shift t k i = ap (λ (x : ℕ). nonzero (x % 2)) (shr-shr t k i)
+
+-- the lowest k digits
+pub bit-mod : (k t i : ℕ) → i < k → bit (t % 2 ^ k) i ≡ bit t i
+unfolding bit
+bit-mod k t i h =
+    ap (λ (m : ℕ). nonzero (t % 2 ^ m / 2 ^ i % 2)) (let e : k ≡ (k - i) + i = omega arith in e)
+    ∙ ap (λ (x : ℕ). nonzero (x % 2)) (field t (k - i) i)
+    ∙ ap (λ (m : ℕ). nonzero (t / 2 ^ i % 2 ^ m % 2)) (let e : k - i ≡ (k - i - 1) + 1 = omega arith in e)
+    ∙ ap nonzero (mod-mod-pow (t / 2 ^ i) (k - i - 1) 1)
 
 half-lt : {a : ℕ} (k : ℕ) → a < 2 ^ suc k → a / 2 < 2 ^ k
 half-lt {a} k h = let e = pow-suc 2 k in omega arith

@@ -1,16 +1,16 @@
 -- What it is for a list of masks to be canonical, member by member. Assumes nothing.
 use mathlib.Core.Path.{_≡_, refl, sym, _∙_, subst}
-use mathlib.Core.Bool.{not, _&&_}
-use mathlib.Core.List.{List, [], _∷_, List·Memᴰ as Mem, List·Memᴰ·head as here, List·Memᴰ·tail as there, List·Memᴰ·not-nil as none, List·Memᴰ·cases-cons as cases}
+use mathlib.Core.Bool.{true, not, _&&_}
+use mathlib.Core.List.{List, [], _∷_, _++_, List·Memᴰ as Mem, List·Memᴰ·head as here, List·Memᴰ·tail as there, List·Memᴰ·not-nil as none, List·Memᴰ·cases-cons as cases}
 use mathlib.Core.Logic.{⊎-elim}
 use Prim.Native.Nat.{ℕ, _^_, _<_}
 use native.Mathlib.Omega.{arith}
 use lib.Dec.{T, ltb, ltb→lt, lt→ltb, T-not, not-T}
-use Rattle.formulas.specs.Formula.{implies}
+use Rattle.formulas.specs.Formula.{holds, satisfied, implies}
 use Rattle.formulas.specs.Normal.{leads, canonical}
 use Rattle.formulas.proofs.Lists.{Asc}
-use Rattle.formulas.proofs.Sets.{subset-le}
-use Rattle.formulas.proofs.Tests.{T-and, T-left, T-right}
+use Rattle.formulas.proofs.Sets.{subset-le, outside, sub-disjoint, disjoint-sub, satisfied-at, satisfied-of}
+use Rattle.formulas.proofs.Tests.{T-and, T-left, T-right, T-stable}
 
 -- the masks are sets of n principals
 abbrev pub Within : ℕ → List ℕ → Type 0
@@ -77,3 +77,63 @@ module _ (n : ℕ) where
       (T-and (leads c cs) (canonical n cs)
       (leads-of c cs (a .0) (λ d m s. let h = a .0 d m in let e = g c d (here refl) (there m) s in omega arith))
       (canon-of cs (λ d m. f d (there m)) (a .1) (λ d e md me. g d e (there md) (there me))))
+
+-- ── with more masks behind it ──
+
+-- a clause that may stand before more masks may stand before the first of them
+leads-front : (c : ℕ) (ds es : List ℕ) → T (leads c (ds ++ es)) → T (leads c ds)
+leads-front c [] es t = tt
+leads-front c (d ∷ ds) es t =
+    let u = T-right (ltb c d) (not (implies c d) && leads c (ds ++ es)) t in
+    T-and (ltb c d) (not (implies c d) && leads c ds) (T-left (ltb c d) (not (implies c d) && leads c (ds ++ es)) t)
+    (T-and (not (implies c d)) (leads c ds) (T-left (not (implies c d)) (leads c (ds ++ es)) u)
+    (leads-front c ds es (T-right (not (implies c d)) (leads c (ds ++ es)) u)))
+
+-- d comes behind c: it is above it, and no set that has c as a subset
+abbrev pub Follows : ℕ → ℕ → Type 0
+Follows c d = (c < d) × (T (implies c d) → ⊥)
+
+leads-last : (c : ℕ) (ds : List ℕ) (e : ℕ) → T (leads c (ds ++ e ∷ [])) → Follows c e
+leads-last c [] e t =
+    (ltb→lt c e (T-left (ltb c e) (not (implies c e) && true) t), T-not (implies c e) (T-left (not (implies c e)) true (T-right (ltb c e) (not (implies c e) && true) t)))
+leads-last c (d ∷ ds) e t =
+    leads-last c ds e (T-right (not (implies c d)) (leads c (ds ++ e ∷ [])) (T-right (ltb c d) (not (implies c d) && leads c (ds ++ e ∷ [])) t))
+
+leads-more : (c : ℕ) (ds : List ℕ) (e : ℕ) → T (leads c ds) → Follows c e → T (leads c (ds ++ e ∷ []))
+leads-more c [] e t h = T-and (ltb c e) (not (implies c e) && true) (lt→ltb c e (h .0)) (T-and (not (implies c e)) true (not-T (implies c e) (h .1)) tt)
+leads-more c (d ∷ ds) e t h =
+    let u = T-right (ltb c d) (not (implies c d) && leads c ds) t in
+    T-and (ltb c d) (not (implies c d) && leads c (ds ++ e ∷ [])) (T-left (ltb c d) (not (implies c d) && leads c ds) t)
+    (T-and (not (implies c d)) (leads c (ds ++ e ∷ [])) (T-left (not (implies c d)) (leads c ds) u)
+    (leads-more c ds e (T-right (not (implies c d)) (leads c ds) u) h))
+
+module _ (n : ℕ) where
+  pub canon-front : (cs es : List ℕ) → T (canonical n (cs ++ es)) → T (canonical n cs)
+  canon-front [] es t = tt
+  canon-front (c ∷ cs) es t =
+      T-and (ltb c (2 ^ n)) (leads c cs && canonical n cs) (lt→ltb c (2 ^ n) (canon-head n c (cs ++ es) t))
+      (T-and (leads c cs) (canonical n cs) (leads-front c cs es (canon-leads n c (cs ++ es) t)) (canon-front cs es (canon-tail n c (cs ++ es) t)))
+
+  -- the last mask follows all others
+  pub canon-last : (cs : List ℕ) (e : ℕ) → T (canonical n (cs ++ e ∷ [])) → (c : ℕ) → Mem c cs → Follows c e
+  canon-last [] e t c m = absurd (none m)
+  canon-last (d ∷ ds) e t c m =
+      ⊎-elim (λ q. subst (λ (y : ℕ). Follows y e) (sym q) (leads-last d ds e (canon-leads n d (ds ++ e ∷ []) t)))
+      (λ m′. canon-last ds e (canon-tail n d (ds ++ e ∷ []) t) c m′) (cases m)
+
+  -- and one that follows all others may be the last
+  pub canon-more : (cs : List ℕ) (e : ℕ) → T (canonical n cs) → e < 2 ^ n → ((c : ℕ) → Mem c cs → Follows c e) → T (canonical n (cs ++ e ∷ []))
+  canon-more [] e t h f = T-and (ltb e (2 ^ n)) true (lt→ltb e (2 ^ n) h) tt
+  canon-more (c ∷ cs) e t h f =
+      T-and (ltb c (2 ^ n)) (leads c (cs ++ e ∷ []) && canonical n (cs ++ e ∷ [])) (lt→ltb c (2 ^ n) (canon-head n c cs t))
+      (T-and (leads c (cs ++ e ∷ [])) (canonical n (cs ++ e ∷ []))
+      (leads-more c cs e (canon-leads n c cs t) (f c (here refl)))
+      (canon-more cs e (canon-tail n c cs t) h (λ d m. f d (there m))))
+
+  -- No mask of a list is a subset of e where the set of all principals outside e satisfies the formula.
+  pub none-within : (cs : List ℕ) (e : ℕ) → e < 2 ^ n → T (satisfied cs (outside n e)) → (c : ℕ) → Mem c cs → T (implies c e) → ⊥
+  none-within cs e h t c m s = sub-disjoint n c e h s (satisfied-at cs (outside n e) c t m)
+
+  pub outside-satisfies : (cs : List ℕ) (e : ℕ) → Within n cs → e < 2 ^ n → ((c : ℕ) → Mem c cs → T (implies c e) → ⊥) → T (satisfied cs (outside n e))
+  outside-satisfies cs e w h f =
+      satisfied-of cs (outside n e) (λ c m. T-stable (holds c (outside n e)) (λ g. f c m (disjoint-sub n c e (w c m) h g)))

@@ -8,7 +8,7 @@ use lib.ListN.{length}
 use Rattle.formulas.specs.Formula.{Arises, conjunction, disjunction, table}
 use Rattle.formulas.specs.Normal.{canonical, clauses, Normal}
 use Rattle.formulas.proofs.Clauses.{clauses-table}
-use Rattle.formulas.proofs.Count.{at-most-20}
+use Rattle.formulas.proofs.Count.{at-most-70}
 use Rattle.formulas.proofs.Existence.{table-clauses, canonical-clauses}
 use Rattle.formulas.proofs.Formula.{table-conjunction, table-disjunction}
 
@@ -37,5 +37,5 @@ pub normal-or : (n a b : ℕ) → Arises n a → Arises n b → Normal n (bitOr 
 normal-or n a b p q = normal n (bitOr a b) (arises-or n a b p q)
 
 -- it is short
-pub at-most-20-clauses : (t : ℕ) → Arises 6 t → length (clauses 6 t) ≤ 20
-at-most-20-clauses t w = at-most-20 (clauses 6 t) (normal 6 t w .form)
+pub at-most-70-clauses : (t : ℕ) → Arises 8 t → length (clauses 8 t) ≤ 70
+at-most-70-clauses t w = at-most-70 (clauses 8 t) (normal 8 t w .form)

@@ -3,7 +3,7 @@
 use mathlib.Core.Bool.{Bool, true, false, not, _&&_, _||_}
 use mathlib.Core.List.{List, [], _∷_}
 use mathlib.Core.Path.{_≡_}
-use Prim.Native.Nat.{ℕ, zero, suc, _-_, _^_}
+use Prim.Native.Nat.{ℕ, zero, suc, _+_, _-_, _/_, _^_}
 use lib.Bits.{bitOr}
 use lib.Dec.{T, ltb}
 use Rattle.formulas.specs.Bits.{bit}
@@ -14,10 +14,20 @@ abbrev pub leads : ℕ → List ℕ → Bool
 leads c [] = true
 leads c (d ∷ ds) = ltb c d && (not (implies c d) && leads c ds)
 
--- Labels: "Masks of one formula ascend strictly, none is a subset of another, each is at most 63": here below 2 ^ n.
+-- Labels: "Masks of one formula ascend strictly, none is a subset of another", and each is below 2 ^ n.
 abbrev pub canonical : ℕ → List ℕ → Bool
 canonical n [] = true
 canonical n (c ∷ cs) = ltb c (2 ^ n) && (leads c cs && canonical n cs)
+
+-- how many of n principals' sets have k members
+abbrev pub choose : ℕ → ℕ → ℕ
+choose n zero = 1
+choose zero (suc k) = 0
+choose (suc n) (suc k) = choose n k + choose n (suc k)
+
+-- Labels: "A formula has at most" so many such clauses: 20 of six principals, T-07: 70 of eight
+abbrev pub mostClauses : ℕ → ℕ
+mostClauses n = choose n (n / 2)
 
 -- the test f passes at every number below n
 abbrev pub allBelow : ℕ → (ℕ → Bool) → Bool

@@ -1,89 +1,104 @@
--- Steps of the loops over a list of masks, from the place i on. Assumes nothing.
-use mathlib.Core.Path.{_≡_, refl, sym, ap, ap₂, _∙_}
-use mathlib.Core.Bool.{Bool, true, false, not, _&&_, and-assoc as Bool·and-assoc}
-use mathlib.Core.List.{List, [], _∷_}
-use Prim.Native.Nat.{ℕ, _+_, _≤_, _<_, _^_}
-use native.Mathlib.Nat.{mod-eq-of-lt}
+-- The loop over the masks of a formula: those before the place i are canonical, and their table is known. Assumes nothing.
+use mathlib.Core.Path.{_≡_, refl, sym, ap, _∙_, subst}
+use mathlib.Core.Bool.{true, false}
+use mathlib.Core.List.{List, [], _∷_, _++_, List·Memᴰ as Mem, List·Memᴰ·head as here, List·Memᴰ·tail as there, List·Memᴰ·not-nil as none, List·Memᴰ·cases-cons as cases}
+use mathlib.Core.Logic.{_⊎_, inl, inr, ⊎-elim}
+use Prim.Native.Nat.{ℕ, _+_, _-_, _≤_, _<_}
 use native.Mathlib.Numerals.{add-one}
-use borrow.Author.Tests.{le-ltb, lt-ltb, eq-eqb, ne-eqb}
-use lib.Bits.{bitAnd, and-comm, and-mask}
-use lib.Dec.{eqb, ltb}
-use lib.ListN.{length, drop, getD, drop-of-length-le}
-use lib.Seq.{drop-cons}
+use native.Mathlib.Omega.{arith}
+use lib.Dec.{T}
+use lib.ListN.{length, take, drop, getD, take-append-drop}
+use lib.Seq.{take-suc, take-all}
 use Rattle.formulas.specs.Bits.{bit}
-use Rattle.formulas.specs.Formula.{holds, table, implies}
-use Rattle.formulas.specs.Normal.{leads, canonical}
-use Rattle.formulas.proofs.Bits.{bit-and, same-bits}
-use Rattle.formulas.proofs.Formula.{table-conjunction, table-lt}
+use Rattle.formulas.specs.Formula.{holds, satisfied, table}
+use Rattle.formulas.specs.Normal.{canonical}
+use Rattle.formulas.proofs.Canonical.{Follows, canon-lt, canon-front, canon-last, canon-more, none-within, outside-satisfies}
+use Rattle.formulas.proofs.Formula.{bit-table, table-lt}
+use Rattle.formulas.proofs.Tests.{T-eq, T-same}
+use Rattle.labels.specs.Tables.{principals, whole, inWords, tableAnd}
+use Rattle.labels.specs.declared.Table.{Table}
+use Rattle.labels.proofs.Wide.{whole-words}
+use Rattle.labels.proofs.Published.{words-conjunction}
 
-from-here : (xs : List ℕ) (i : ℕ) → i < length xs → drop i xs ≡ getD xs i 0 ∷ drop (i + 1) xs
-from-here xs i h = drop-cons xs i 0 h ∙ ap (λ (k : ℕ). getD xs i 0 ∷ drop k xs) (sym (add-one i))
+-- the table of a formula
+abbrev pub formula : List ℕ → Table
+formula cs = inWords (table principals cs)
 
-module _ (c : ℕ) (xs : List ℕ) (j : ℕ) (h : j < length xs) where
-  leads-here : (x y : Bool) → ltb c (getD xs j 0) ≡ x → implies c (getD xs j 0) ≡ y → leads c (drop j xs) ≡ (x && (not y && leads c (drop (j + 1) xs)))
-  leads-here x y e f =
-      ap (leads c) (from-here xs j h)
-      ∙ ap₂ (λ (a b : Bool). a && (not b && leads c (drop (j + 1) xs))) e f
+-- the last member of a list is behind it
+mem-last : (cs : List ℕ) (c : ℕ) → Mem c (cs ++ c ∷ [])
+mem-last [] c = here refl
+mem-last (d ∷ ds) c = there (mem-last ds c)
 
-  pub leads-below : getD xs j 0 ≤ c → leads c (drop j xs) ≡ false
-  leads-below q = leads-here false (implies c (getD xs j 0)) (le-ltb c (getD xs j 0) q) refl
+mem-more : (cs : List ℕ) (c d : ℕ) → Mem d (cs ++ c ∷ []) → Mem d cs ⊎ (d ≡ c)
+mem-more [] c d m = ⊎-elim (λ q. inr q) (λ m′. absurd (none m′)) (cases m)
+mem-more (e ∷ es) c d m = ⊎-elim (λ q. inl (here q)) (λ m′. ⊎-elim (λ k. inl (there k)) (λ q. inr q) (mem-more es c d m′)) (cases m)
 
-  module _ (d : ℕ) (e : d ≡ getD xs j 0) where
-    at-d : implies c (getD xs j 0) ≡ eqb (bitAnd c d) c
-    unfolding implies
-    at-d = ap (λ (x : ℕ). eqb (bitAnd c x) c) (sym e)
+-- i masks are passed, their table is t, and the next is at least `least`, which is 0 or one more than the last of them
+pub record Passed (ms : List ℕ) (t : Table) (least i : ℕ) : Type 0 where
+  pub within : i ≤ length ms
+  pub canon : T (canonical principals (take i ms))
+  pub is-table : t ≡ formula (take i ms)
+  pub below : (d : ℕ) → Mem d (take i ms) → d < least
+  pub last : (least ≡ 0) ⊎ Mem (least - 1) (take i ms)
 
-    pub leads-subset : c < getD xs j 0 → bitAnd c d ≡ c → leads c (drop j xs) ≡ false
-    leads-subset q f = leads-here true true (lt-ltb c (getD xs j 0) q) (at-d ∙ eq-eqb (bitAnd c d) c f)
-
-    pub leads-on : c < getD xs j 0 → (bitAnd c d ≡ c → ⊥) → leads c (drop j xs) ≡ leads c (drop (j + 1) xs)
-    leads-on q f = leads-here true false (lt-ltb c (getD xs j 0) q) (at-d ∙ ne-eqb (bitAnd c d) c f)
-
-pub leads-end : (c : ℕ) (xs : List ℕ) (j : ℕ) → length xs ≤ j → leads c (drop j xs) ≡ true
-leads-end c xs j h = ap (leads c) (drop-of-length-le xs h)
-
-module _ (n : ℕ) (xs : List ℕ) (i : ℕ) (h : i < length xs) where
-  canon-here : (x y : Bool) → ltb (getD xs i 0) (2 ^ n) ≡ x → leads (getD xs i 0) (drop (i + 1) xs) ≡ y
-      → canonical n (drop i xs) ≡ (x && (y && canonical n (drop (i + 1) xs)))
-  canon-here x y e f =
-      ap (canonical n) (from-here xs i h) ∙ ap₂ (λ (a b : Bool). a && (b && canonical n (drop (i + 1) xs))) e f
-
-  pub canon-wide : 2 ^ n ≤ getD xs i 0 → canonical n (drop i xs) ≡ false
-  canon-wide q = canon-here false (leads (getD xs i 0) (drop (i + 1) xs)) (le-ltb (getD xs i 0) (2 ^ n) q) refl
-
-  module _ (d : ℕ) (e : d ≡ getD xs i 0) (r : Bool) (f : r ≡ leads d (drop (i + 1) xs)) where
-    led : (y : Bool) → r ≡ y → leads (getD xs i 0) (drop (i + 1) xs) ≡ y
-    led y g = sym (f ∙ ap (λ (x : ℕ). leads x (drop (i + 1) xs)) e) ∙ g
-
-    pub canon-led : getD xs i 0 < 2 ^ n → r ≡ false → canonical n (drop i xs) ≡ false
-    canon-led q g = canon-here true false (lt-ltb (getD xs i 0) (2 ^ n) q) (led false g)
-
-    pub canon-on : getD xs i 0 < 2 ^ n → r ≡ true → canonical n (drop i xs) ≡ canonical n (drop (i + 1) xs)
-    canon-on q g = canon-here true true (lt-ltb (getD xs i 0) (2 ^ n) q) (led true g)
-
-pub canon-end : (n : ℕ) (xs : List ℕ) (i : ℕ) → length xs ≤ i → canonical n (drop i xs) ≡ true
-canon-end n xs i h = ap (canonical n) (drop-of-length-le xs h)
-
--- ---- the AND of the clauses, from the place i on
-
-and-assoc : (a b c : ℕ) → bitAnd (bitAnd a b) c ≡ bitAnd a (bitAnd b c)
-and-assoc a b c =
-    same-bits (bitAnd (bitAnd a b) c) (bitAnd a (bitAnd b c)) (λ i.
-    bit-and (bitAnd a b) c i ∙ ap (λ (x : Bool). x && bit c i) (bit-and a b i) ∙ Bool·and-assoc (bit a i) (bit b i) (bit c i)
-    ∙ sym (bit-and a (bitAnd b c) i ∙ ap (λ (x : Bool). bit a i && x) (bit-and b c i)))
-
-pub table-start : (xs : List ℕ) → table 6 xs ≡ bitAnd 18446744073709551615 (table 6 xs)
-table-start xs =
-    sym (and-comm 18446744073709551615 (table 6 xs) ∙ and-mask (table 6 xs) 64 ∙ mod-eq-of-lt (table-lt 6 xs))
-
-pub table-step : (xs : List ℕ) (i t s : ℕ) → i < length xs → s ≡ table 6 (getD xs i 0 ∷ [])
-    → table 6 xs ≡ bitAnd t (table 6 (drop i xs)) → table 6 xs ≡ bitAnd (bitAnd t s) (table 6 (drop (i + 1) xs))
-table-step xs i t s h e q =
-    q ∙ ap (bitAnd t) (ap (table 6) (from-here xs i h) ∙ table-conjunction 6 (getD xs i 0 ∷ []) (drop (i + 1) xs)
-    ∙ ap (λ (x : ℕ). bitAnd x (table 6 (drop (i + 1) xs))) (sym e))
-    ∙ sym (and-assoc t s (table 6 (drop (i + 1) xs)))
-
-pub table-end : (xs : List ℕ) (i t : ℕ) → length xs ≤ i → t < 2 ^ 64 → table 6 xs ≡ bitAnd t (table 6 (drop i xs)) → t ≡ table 6 xs
+pub passed-none : (ms : List ℕ)
+    → Passed ms (record { word0 = 18446744073709551615; word1 = 18446744073709551615; word2 = 18446744073709551615; word3 = 18446744073709551615 }) 0 0
 unfolding table holds
-table-end xs i t h f q =
-    sym (q ∙ ap (λ (l : List ℕ). bitAnd t (table 6 l)) (drop-of-length-le xs h) ∙ and-mask t 64 ∙ mod-eq-of-lt f)
+passed-none ms = record { within = omega arith; canon = tt; is-table = refl; below = λ d m. absurd (none m); last = inl refl }
+
+module _ (ms : List ℕ) (t : Table) (least i : ℕ) (w : Passed ms t least i) (h : i < length ms) where
+  abbrev c : ℕ
+  c = getD ms i 0
+
+  one-more : take (i + 1) ms ≡ take i ms ++ c ∷ []
+  one-more = ap (λ (k : ℕ). take k ms) (add-one i) ∙ take-suc ms i 0 h
+
+  -- a canonical list is canonical up to this mask
+  up-to : T (canonical principals ms) → T (canonical principals (take i ms ++ c ∷ []))
+  up-to u =
+      subst (λ (cs : List ℕ). T (canonical principals cs)) one-more
+      (canon-front principals (take (i + 1) ms) (drop (i + 1) ms) (subst (λ (cs : List ℕ). T (canonical principals cs)) (sym (take-append-drop (i + 1) ms)) u))
+
+  pub not-above : c < least → canonical principals ms ≡ false
+  not-above q =
+      T-same (canonical principals ms) false
+      (λ u. ⊎-elim (λ e. absurd (omega arith))
+      (λ m. let f = canon-last principals (take i ms) c (up-to u) (least - 1) m in absurd (omega (arith, f .0))) (w .last))
+      (λ u. absurd u)
+
+  module _ (small : c < 256) where
+    -- what the table tells of the principals outside this mask
+    tells : bit (whole t) (255 - c) ≡ satisfied (take i ms) (255 - c)
+    tells =
+        ap (λ (x : ℕ). bit x (255 - c)) (ap whole (w .is-table) ∙ whole-words (table principals (take i ms)) (table-lt principals (take i ms)))
+        ∙ bit-table principals (take i ms) (255 - c) (omega arith)
+
+    pub has-subset : bit (whole t) (255 - c) ≡ false → canonical principals ms ≡ false
+    has-subset e =
+        T-same (canonical principals ms) false
+        (λ u. T-eq (sym tells ∙ e)
+        (outside-satisfies principals (take i ms) c (canon-lt principals (take i ms) (w .canon)) small (λ d m. canon-last principals (take i ms) c (up-to u) d m .1)))
+        (λ u. absurd u)
+
+    pub passed-more : least ≤ c → bit (whole t) (255 - c) ≡ true → (s : Table) → s ≡ formula (c ∷ []) → (r : Table) → r ≡ tableAnd t s → Passed ms r (c + 1) (i + 1)
+    passed-more q e s es r er =
+        record {
+          within = omega arith;
+          canon = subst (λ (cs : List ℕ). T (canonical principals cs)) (sym one-more) (canon-more principals (take i ms) c (w .canon) small follows);
+          is-table =
+              er ∙ (λ k. tableAnd (w .is-table k) (es k)) ∙ words-conjunction (take i ms) (c ∷ []) ∙ ap formula (sym one-more);
+          below = λ d m. ⊎-elim (λ k. let b = w .below d k in omega arith) (λ k. omega arith) (mem-more (take i ms) c d (subst (Mem d) one-more m));
+          last = inr (subst (Mem (c + 1 - 1)) (sym one-more) (subst (λ (k : ℕ). Mem k (take i ms ++ c ∷ [])) (let z : c ≡ c + 1 - 1 = omega arith in z) (mem-last (take i ms) c)));
+        }
+      where
+        follows : (d : ℕ) → Mem d (take i ms) → Follows d c
+        follows d m = (let b = w .below d m in omega arith, none-within principals (take i ms) c small (T-eq (sym e ∙ tells) tt) d m)
+
+-- all of them are passed
+module _ (ms : List ℕ) (t : Table) (least i : ℕ) (w : Passed ms t least i) (h : length ms ≤ i) where
+  pub all-canonical : canonical principals ms ≡ true
+  all-canonical =
+      T-same (canonical principals ms) true (λ _. tt) (λ _. subst (λ (cs : List ℕ). T (canonical principals cs)) (take-all i ms h) (w .canon))
+
+  pub all-table : t ≡ formula ms
+  all-table = w .is-table ∙ ap formula (take-all i ms h)

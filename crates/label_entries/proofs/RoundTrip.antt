@@ -9,12 +9,16 @@ use borrow.Author.Tests.{le-leb}
 use lib.Dec.{T}
 use lib.ListN.{length, take, drop, getD, length-append, length-drop}
 use lib.Seq.{take-append-seam, drop-append-seam, take-append-add, drop-append-add, take-add, length-take-le}
-use Rattle.formulas.specs.Formula.{table}
+use Rattle.formulas.specs.Formula.{Arises, table}
 use Rattle.formulas.specs.Normal.{canonical, clauses}
 use Rattle.formulas.proofs.Clauses.{clauses-table}
-use Rattle.formulas.proofs.Normal.{normal, at-most-20-clauses}
-use Rattle.labels.specs.Order.{label, Arising}
-use Rattle.label_entries.specs.Entries.{secrecyMasks, integrityMasks, entryLength, readEntry, entryBytes, fits, writeAnswer, writeBuffer}
+use Rattle.formulas.proofs.Formula.{table-lt}
+use Rattle.formulas.proofs.Normal.{normal, at-most-70-clauses}
+use Rattle.labels.specs.Tables.{principals, whole, inWords}
+use Rattle.labels.proofs.Wide.{whole-words}
+use Rattle.labels.specs.Order.{label, Formulated, Arising}
+use Rattle.label_entries.specs.Entries.{secrecyMasks, integrityMasks, entryLength, readEntry, clausesOf, entryBytes, fits, writeAnswer, writeBuffer}
+use Rattle.labels.specs.declared.Table.{Table}
 use Rattle.labels.specs.declared.Label.{Label}
 use Rattle.label_entries.specs.declared.Entry.the-variants.{Read}
 use Rattle.label_entries.specs.declared.Written.the-variants.{Bytes, TooShort}
@@ -39,22 +43,40 @@ module _ (S I rest : List ℕ) where
   length-laid : length laid ≡ 2 + length S + length I + length rest
   length-laid = omega (arith, length-append (S ++ I) rest, length-append S I)
 
+-- a table that is a formula's, as one number
+whole-is : (t : Table) (f : Formulated t) → whole t ≡ table principals (f .0)
+whole-is t f = ap whole (f .1) ∙ whole-words (table principals (f .0)) (table-lt principals (f .0))
+
+whole-arises : (t : Table) → Formulated t → Arises principals (whole t)
+whole-arises t f = (f .0, whole-is t f)
+
+-- is the table of its clauses
+of-clauses : (t : Table) → Formulated t → inWords (table principals (clausesOf t)) ≡ t
+of-clauses t f =
+    ap inWords (normal principals (whole t) (whole-arises t f) .same ∙ whole-is t f) ∙ sym (f .1)
+
 module _ (l : Label) (arises : Arising l) where
   abbrev S : List ℕ
-  S = clauses 6 (l .secrecy)
+  S = clausesOf (l .secrecy)
 
   abbrev I : List ℕ
-  I = clauses 6 (l .integrity)
+  I = clausesOf (l .integrity)
+
+  arises-S : Arises principals (whole (l .secrecy))
+  arises-S = whole-arises (l .secrecy) (arises .0)
+
+  arises-I : Arises principals (whole (l .integrity))
+  arises-I = whole-arises (l .integrity) (arises .1)
 
   well : (rest : List ℕ) → WellFormed (laid S I rest)
   well rest =
       record {
         counts = omega (arith, length-laid S I rest);
-        few-secrecy = at-most-20-clauses (l .secrecy) (arises .0);
-        few-integrity = at-most-20-clauses (l .integrity) (arises .1);
+        few-secrecy = at-most-70-clauses (whole (l .secrecy)) arises-S;
+        few-integrity = at-most-70-clauses (whole (l .integrity)) arises-I;
         whole = omega (arith, length-laid S I rest);
-        secrecy = subst (λ (cs : List ℕ). T (canonical 6 cs)) (sym (secrecy-laid S I rest)) (normal 6 (l .secrecy) (arises .0) .form);
-        integrity = subst (λ (cs : List ℕ). T (canonical 6 cs)) (sym (integrity-laid S I rest)) (normal 6 (l .integrity) (arises .1) .form);
+        secrecy = subst (λ (cs : List ℕ). T (canonical principals cs)) (sym (secrecy-laid S I rest)) (normal principals (whole (l .secrecy)) arises-S .form);
+        integrity = subst (λ (cs : List ℕ). T (canonical principals cs)) (sym (integrity-laid S I rest)) (normal principals (whole (l .integrity)) arises-I .form);
       }
 
   -- whatever lies behind the entry
@@ -63,8 +85,8 @@ module _ (l : Label) (arises : Arising l) where
       sym (accepted (laid S I rest) (well rest))
       ∙ ap₂ (λ (a : Label) (n : ℕ). Read a n)
       (λ k. record {
-        secrecy = (ap (table 6) (secrecy-laid S I rest) ∙ normal 6 (l .secrecy) (arises .0) .same) k;
-        integrity = (ap (table 6) (integrity-laid S I rest) ∙ normal 6 (l .integrity) (arises .1) .same) k;
+        secrecy = (ap (λ (cs : List ℕ). inWords (table principals cs)) (secrecy-laid S I rest) ∙ of-clauses (l .secrecy) (arises .0)) k;
+        integrity = (ap (λ (cs : List ℕ). inWords (table principals cs)) (integrity-laid S I rest) ∙ of-clauses (l .integrity) (arises .1)) k;
       })
       (omega (arith, length-append S I))
 
@@ -89,10 +111,14 @@ entry-parts (x ∷ y ∷ rest) w =
     ∙ take-append-add (x ∷ y ∷ []) rest (x + y)
     ∙ ap (λ (z : List ℕ). x ∷ y ∷ z) (take-add x y rest ∙ ap (λ (z : List ℕ). take x rest ++ take y z) (sym (drop-append-add (x ∷ y ∷ []) rest x)))
 
+-- the clauses of a canonical list's table are the list
+listed : (cs : List ℕ) → T (canonical principals cs) → clausesOf (inWords (table principals cs)) ≡ cs
+listed cs c = ap (clauses principals) (whole-words (table principals cs) (table-lt principals cs)) ∙ clauses-table principals cs c
+
 -- and they are what is written for their label
 same-bytes : (xs : List ℕ) → WellFormed xs → entryBytes (label (secrecyMasks xs) (integrityMasks xs)) ≡ take (entryLength xs) xs
 same-bytes xs w =
-    ap₂ (λ (A B : List ℕ). length A ∷ length B ∷ (A ++ B)) (clauses-table 6 (secrecyMasks xs) (w .secrecy)) (clauses-table 6 (integrityMasks xs) (w .integrity))
+    ap₂ (λ (A B : List ℕ). length A ∷ length B ∷ (A ++ B)) (listed (secrecyMasks xs) (w .secrecy)) (listed (integrityMasks xs) (w .integrity))
     ∙ ap₂ (λ (a b : ℕ). a ∷ b ∷ (secrecyMasks xs ++ integrityMasks xs))
     (length-take-le (getD xs 0 0) (drop 2 xs) (omega (arith, length-drop 2 xs, w .whole)))
     (length-take-le (getD xs 1 0) (drop (2 + getD xs 0 0) xs) (omega (arith, length-drop (2 + getD xs 0 0) xs, w .whole)))

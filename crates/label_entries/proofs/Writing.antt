@@ -8,8 +8,7 @@ use borrow.Author.Tests.{le-leb, lt-leb}
 use borrow.Rule.Slice.PartMut.{putMid}
 use lib.ListN.{length, drop, set, length-append}
 use lib.Seq.{take-at, drop-at, drop-drop, drop-append-add}
-use Rattle.formulas.specs.Normal.{clauses}
-use Rattle.label_entries.specs.Entries.{entryBytes, fits, writeAnswer, writeBuffer}
+use Rattle.label_entries.specs.Entries.{clausesOf, entryBytes, fits, writeAnswer, writeBuffer}
 use Rattle.labels.specs.declared.Label.{Label}
 use Rattle.label_entries.specs.declared.Written.the-variants.{Bytes, TooShort}
 
@@ -41,9 +40,9 @@ laid (x ∷ y ∷ rest) S I h =
         ap (λ (k : ℕ). drop k (x ∷ y ∷ rest)) (let e : 2 + length S + length I ≡ 2 + (length S + length I) = omega arith in e)
         ∙ drop-append-add (x ∷ y ∷ []) rest (length S + length I)
 
-module _ (l : Label) (out : List ℕ) (m n : ℕ) (em : m ≡ length (clauses 6 (l .secrecy))) (en : n ≡ length (clauses 6 (l .integrity))) where
+module _ (l : Label) (out : List ℕ) (m n : ℕ) (em : m ≡ length (clausesOf (l .secrecy))) (en : n ≡ length (clausesOf (l .integrity))) where
   counted : length (entryBytes l) ≡ 2 + m + n
-  counted = omega (arith, length-append (clauses 6 (l .secrecy)) (clauses 6 (l .integrity)))
+  counted = omega (arith, length-append (clausesOf (l .secrecy)) (clausesOf (l .integrity)))
 
   module _ (h : length out < 2 + m + n) where
     refuses : fits l out ≡ false
@@ -65,13 +64,13 @@ module _ (l : Label) (out : List ℕ) (m n : ℕ) (em : m ≡ length (clauses 6 
     unfolding writeAnswer
     whole-answer = ap Bytes (sym counted) ∙ sym (ap (λ (b : Bool). cond b (Bytes (length (entryBytes l))) TooShort) takes)
 
-    in-place : entryBytes l ++ drop (2 + length (clauses 6 (l .secrecy)) + length (clauses 6 (l .integrity))) out ≡ writeBuffer l out
+    in-place : entryBytes l ++ drop (2 + length (clausesOf (l .secrecy)) + length (clausesOf (l .integrity))) out ≡ writeBuffer l out
     unfolding writeBuffer
     in-place =
         ap (λ (k : ℕ). entryBytes l ++ drop k out)
-        (let e : 2 + length (clauses 6 (l .secrecy)) + length (clauses 6 (l .integrity)) ≡ length (entryBytes l) = omega (arith, counted) in e)
+        (let e : 2 + length (clausesOf (l .secrecy)) + length (clausesOf (l .integrity)) ≡ length (entryBytes l) = omega (arith, counted) in e)
         ∙ sym (ap (λ (b : Bool). cond b (entryBytes l ++ drop (length (entryBytes l)) out) out) takes)
 
-    pub whole-buffer : (S I : List ℕ) → S ≡ clauses 6 (l .secrecy) → I ≡ clauses 6 (l .integrity)
+    pub whole-buffer : (S I : List ℕ) → S ≡ clausesOf (l .secrecy) → I ≡ clausesOf (l .integrity)
         → putMid (2 + m) (2 + m + n - (2 + m)) (putMid 2 (2 + m - 2) (set (set out 0 m) 1 n) S) I ≡ writeBuffer l out
-    whole-buffer S I es ei = rw (em, en, es, ei) (laid out (clauses 6 (l .secrecy)) (clauses 6 (l .integrity)) (omega arith) ∙ in-place)
+    whole-buffer S I es ei = rw (em, en, es, ei) (laid out (clausesOf (l .secrecy)) (clausesOf (l .integrity)) (omega arith) ∙ in-place)

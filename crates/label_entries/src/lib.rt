@@ -1,12 +1,14 @@
 // Label entries, as a file has them: read and written.
 use labels::Label;
+use labels::Table;
 ghost use mathlib.Core.Path.{_≡_};
 ghost use mathlib.Core.List.{[], _∷_};
-ghost use Prim.Native.Nat.{_<_, _≤_, _^_};
-ghost use lib.ListN.{length, drop};
+ghost use Prim.Native.Nat.{_<_, _^_};
+ghost use lib.ListN.{length};
 ghost use Rattle.formulas.specs.Bits.{bit};
 ghost use Rattle.formulas.specs.Formula.{table};
-ghost use Rattle.formulas.specs.Normal.{leads, canonical, passesWith, maximalFalse, clauses};
+ghost use Rattle.labels.specs.Tables.{principals, whole, inWords, wordAt};
+ghost use Rattle.formulas.specs.Normal.{passesWith, maximalFalse, clauses};
 ghost use Rattle.label_entries.specs.Entries.{readFormula, readEntry, writeAnswer, writeBuffer};
 
 // What reading a label entry finds.
@@ -18,7 +20,7 @@ pub enum Entry {
 
 // What reading the masks of one formula finds.
 enum Formula {
-    Table(u64),
+    Read(Table),
     Malformed,
 }
 
@@ -44,80 +46,79 @@ pub fn read_entry(s: &[u8]) -> Entry
     if s.len() < e {
         return Entry::Malformed;
     }
-    let Formula::Table(secrecy) = read_formula(&s[2..a]) else {
+    let Formula::Read(secrecy) = read_formula(&s[2..a]) else {
         return Entry::Malformed;
     };
-    let Formula::Table(integrity) = read_formula(&s[a..e]) else {
+    let Formula::Read(integrity) = read_formula(&s[a..e]) else {
         return Entry::Malformed;
     };
     Entry::Read(Label { secrecy, integrity }, e)
 }
 
-// The formula with the clauses `masks`.
+// The formula with the clauses `masks`: they ascend strictly, and none is a subset of another. Each byte is the mask of a set of
+// principals. A clause has none of those before it as a subset where the principals outside it satisfy these.
 fn read_formula(masks: &[u8]) -> Formula
     ensures { λ r. ⌜ r ≡ readFormula (now (masks .entry)) ⌝ }
 {
-    if 20 < masks.len() {
+    if MOST_CLAUSES < masks.len() {
         return Formula::Malformed;
     }
-    if !canonical(masks) {
-        return Formula::Malformed;
-    }
-    Formula::Table(table_of(masks))
-}
-
-// Whether the masks ascend strictly, none is a subset of another, and each is at most 63.
-fn canonical(masks: &[u8]) -> bool
-    ensures { λ r. ⌜ r ≡ canonical 6 (now (masks .entry)) ⌝ }
-{
+    let mut t = Table {
+        word0: ALL,
+        word1: ALL,
+        word2: ALL,
+        word3: ALL,
+    };
+    let mut least: u64 = 0;
     let mut i = 0;
     while i < masks.len() {
         let c = wide(masks[i]);
-        if 64 <= c {
-            return false;
+        if c < least {
+            return Formula::Malformed;
         }
-        if !leads(c, masks, i + 1) {
-            return false;
+        if !contains(t, SETS - 1 - c) {
+            return Formula::Malformed;
         }
+        t = labels::both(t, clause_table(c));
+        least = c + 1;
         i += 1;
     }
-    true
+    Formula::Read(t)
 }
 
-// Whether the clause `c` may stand before the masks from `from` on: it is below each, and a subset of none.
-fn leads(c: u64, masks: &[u8], from: usize) -> bool
-    requires { ⌜ from ≤ length (now masks) ⌝ }
-    ensures { λ r. ⌜ r ≡ leads c (drop from (now (masks .entry))) ⌝ }
+// As many clauses as a formula has at most: the sets of half of the principals.
+const MOST_CLAUSES: usize = 70;
+
+// A word in which every set is.
+const ALL: u64 = 0xFFFF_FFFF_FFFF_FFFF;
+
+// The table of one clause.
+fn clause_table(mask: u64) -> Table
+    ensures { λ r. ⌜ r ≡ inWords (table principals (mask ∷ [])) ⌝ }
 {
-    let mut j = from;
-    while j < masks.len() {
-        let d = wide(masks[j]);
-        if d <= c {
-            return false;
-        }
-        if c & d == c {
-            return false;
-        }
-        j += 1;
+    let six = first_six(mask);
+    Table {
+        word0: clause_word(mask, six, 0),
+        word1: clause_word(mask, six, 1),
+        word2: clause_word(mask, six, 2),
+        word3: clause_word(mask, six, 3),
     }
-    true
 }
 
-// The table of the formula with the clauses `masks`: the AND of their tables.
-fn table_of(masks: &[u8]) -> u64
-    ensures { λ r. ⌜ r ≡ table 6 (now (masks .entry)) ⌝ }
+// Word k of the table of a clause. The sets that stand there have the principals from 6 on that k has: either one of these is
+// a member of the clause, and all of them satisfy it, or it is left to the first six, whose word is given.
+fn clause_word(mask: u64, six: u64, k: u64) -> u64
+    requires { ⌜ (k < 4) × (six ≡ table 6 (mask ∷ [])) ⌝ }
+    ensures { λ r. ⌜ r ≡ wordAt k (table principals (mask ∷ [])) ⌝ }
 {
-    let mut t: u64 = 0xFFFF_FFFF_FFFF_FFFF;
-    let mut i = 0;
-    while i < masks.len() {
-        t = t & clause_table(wide(masks[i]));
-        i += 1;
+    if mask >> 6 & k != 0 {
+        return ALL;
     }
-    t
+    six
 }
 
-// The table of one clause: the OR of the tables of its members.
-fn clause_table(mask: u64) -> u64
+// The sets of the first six principals that share a member with a clause: the OR of the words of its members.
+fn first_six(mask: u64) -> u64
     ensures { λ r. ⌜ r ≡ table 6 (mask ∷ []) ⌝ }
 {
     let mut t: u64 = 0;
@@ -131,7 +132,7 @@ fn clause_table(mask: u64) -> u64
     t
 }
 
-// At p, the table of the clause with the one member p.
+// At p, the word of the clause with the one member p.
 const SINGLE: [u64; 6] = [
     0xAAAA_AAAA_AAAA_AAAA,
     0xCCCC_CCCC_CCCC_CCCC,
@@ -164,13 +165,13 @@ pub fn write_entry(l: Label, out: &mut [u8]) -> Written
 }
 
 // How many clauses the one list of the table `t` has.
-fn count_clauses(t: u64) -> usize
-    ensures { λ r. ⌜ r ≡ length (clauses 6 t) ⌝ }
+fn count_clauses(t: Table) -> usize
+    ensures { λ r. ⌜ r ≡ length (clauses principals (whole t)) ⌝ }
 {
     let mut n: usize = 0;
     let mut c: u64 = 0;
-    while c < 64 {
-        if maximal_false(t, 63 - c) {
+    while c < SETS {
+        if maximal_false(t, SETS - 1 - c) {
             n += 1;
         }
         c += 1;
@@ -179,14 +180,14 @@ fn count_clauses(t: u64) -> usize
 }
 
 // Writes the one list of clauses of the table `t` over `out`, which has its length.
-fn write_clauses(t: u64, out: &mut [u8])
-    requires { ⌜ length (now out) ≡ length (clauses 6 t) ⌝ }
-    ensures { λ r. ⌜ now (out .exit) ≡ clauses 6 t ⌝ }
+fn write_clauses(t: Table, out: &mut [u8])
+    requires { ⌜ length (now out) ≡ length (clauses principals (whole t)) ⌝ }
+    ensures { λ r. ⌜ now (out .exit) ≡ clauses principals (whole t) ⌝ }
 {
     let mut n: usize = 0;
     let mut mask: u64 = 0;
-    while mask < 64 {
-        if maximal_false(t, 63 - mask) {
+    while mask < SETS {
+        if maximal_false(t, SETS - 1 - mask) {
             out[n] = mask as u8;
             n += 1;
         }
@@ -194,16 +195,21 @@ fn write_clauses(t: u64, out: &mut [u8])
     }
 }
 
+// How many principals there are, and sets of them.
+const PRINCIPALS: u64 = 8;
+
+const SETS: u64 = 256;
+
 // Whether the set `x` is not in the table `t`, and is with any one more principal.
-fn maximal_false(t: u64, x: u64) -> bool
-    requires { ⌜ x < 64 ⌝ }
-    ensures { λ r. ⌜ r ≡ maximalFalse 6 t x ⌝ }
+fn maximal_false(t: Table, x: u64) -> bool
+    requires { ⌜ x < 256 ⌝ }
+    ensures { λ r. ⌜ r ≡ maximalFalse principals (whole t) x ⌝ }
 {
-    if has(t, x) {
+    if contains(t, x) {
         return false;
     }
     let mut p: u64 = 0;
-    while p < 6 {
+    while p < PRINCIPALS {
         if !passes_with(t, x, p) {
             return false;
         }
@@ -213,16 +219,16 @@ fn maximal_false(t: u64, x: u64) -> bool
 }
 
 // Whether `p` is in the set `x`, or `x` with `p` is in the table `t`.
-fn passes_with(t: u64, x: u64, p: u64) -> bool
-    requires { ⌜ (x < 64) × (p < 6) ⌝ }
-    ensures { λ r. ⌜ r ≡ passesWith t x p ⌝ }
+fn passes_with(t: Table, x: u64, p: u64) -> bool
+    requires { ⌜ (x < 256) × (p < principals) ⌝ }
+    ensures { λ r. ⌜ r ≡ passesWith (whole t) x p ⌝ }
 {
-    has(x, p) || has(t, x | singleton(p))
+    has(x, p) || contains(t, x | singleton(p))
 }
 
 // The set of the one principal `p`.
 fn singleton(p: u64) -> u64
-    requires { ⌜ p < 6 ⌝ }
+    requires { ⌜ p < principals ⌝ }
     ensures { λ r. ⌜ r ≡ 2 ^ p ⌝ }
 {
     1 << p
@@ -230,15 +236,32 @@ fn singleton(p: u64) -> u64
 
 // ---- bits
 
-// Bit `i` of `t`: whether the set `i` is in the table `t`, or the principal `i` in the set `t`.
-fn has(t: u64, i: u64) -> bool
-    requires { ⌜ i < 64 ⌝ }
-    ensures { λ r. ⌜ r ≡ bit t i ⌝ }
+// Whether the set `x` is in the table `t`.
+fn contains(t: Table, x: u64) -> bool
+    requires { ⌜ x < 256 ⌝ }
+    ensures { λ r. ⌜ r ≡ bit (whole t) x ⌝ }
 {
-    t >> i & 1 != 0
+    if x < 64 {
+        return has(t.word0, x);
+    }
+    if x < 128 {
+        return has(t.word1, x - 64);
+    }
+    if x < 192 {
+        return has(t.word2, x - 128);
+    }
+    has(t.word3, x - 192)
 }
 
-// The byte `x`, as wide as a table.
+// Bit `i` of `w`: whether it is in a word of a table, or the principal `i` in the set `w`.
+fn has(w: u64, i: u64) -> bool
+    requires { ⌜ i < 64 ⌝ }
+    ensures { λ r. ⌜ r ≡ bit w i ⌝ }
+{
+    w >> i & 1 != 0
+}
+
+// The byte `x`, as wide as a word.
 fn wide(x: u8) -> u64
     ensures { λ r. ⌜ r ≡ x ⌝ }
 {

@@ -6,8 +6,8 @@ use Prim.Native.Nat.{ℕ, _+_, _≤_}
 use native.Mathlib.Omega.{arith}
 use lib.Dec.{T, eqb}
 use borrow.Author.Tests.{eqb-false}
-use Rattle.formulas.specs.Formula.{implies}
 use Rattle.formulas.proofs.Tests.{T-left, T-right, T-eq}
+use Rattle.labels.specs.Tables.{tableImplies}
 use Rattle.labels.specs.Order.{Told, flowTest, flows}
 use Rattle.labels.specs.declared.Label.{Label}
 
@@ -22,7 +22,7 @@ at-most-3 false false = omega arith
 
 pub flow-test-at-most-3 : (a b : Label) → flowTest a b ≤ 3
 unfolding flowTest
-flow-test-at-most-3 a b = at-most-3 (implies (b .secrecy) (a .secrecy)) (implies (a .integrity) (b .integrity))
+flow-test-at-most-3 a b = at-most-3 (tableImplies (b .secrecy) (a .secrecy)) (tableImplies (a .integrity) (b .integrity))
 
 -- ── it flows where both hold ──
 
@@ -32,15 +32,15 @@ zero true false = refl
 zero false true = refl
 zero false false = refl
 
-pub flows-halves : (a b : Label) → flows a b ≡ implies (b .secrecy) (a .secrecy) && implies (a .integrity) (b .integrity)
+pub flows-halves : (a b : Label) → flows a b ≡ tableImplies (b .secrecy) (a .secrecy) && tableImplies (a .integrity) (b .integrity)
 unfolding flowTest
-flows-halves a b = zero (implies (b .secrecy) (a .secrecy)) (implies (a .integrity) (b .integrity))
+flows-halves a b = zero (tableImplies (b .secrecy) (a .secrecy)) (tableImplies (a .integrity) (b .integrity))
 
-pub flows-secrecy : (a b : Label) → T (flows a b) → T (implies (b .secrecy) (a .secrecy))
-flows-secrecy a b h = T-left (implies (b .secrecy) (a .secrecy)) (implies (a .integrity) (b .integrity)) (T-eq (flows-halves a b) h)
+pub flows-secrecy : (a b : Label) → T (flows a b) → T (tableImplies (b .secrecy) (a .secrecy))
+flows-secrecy a b h = T-left (tableImplies (b .secrecy) (a .secrecy)) (tableImplies (a .integrity) (b .integrity)) (T-eq (flows-halves a b) h)
 
-pub flows-integrity : (a b : Label) → T (flows a b) → T (implies (a .integrity) (b .integrity))
-flows-integrity a b h = T-right (implies (b .secrecy) (a .secrecy)) (implies (a .integrity) (b .integrity)) (T-eq (flows-halves a b) h)
+pub flows-integrity : (a b : Label) → T (flows a b) → T (tableImplies (a .integrity) (b .integrity))
+flows-integrity a b h = T-right (tableImplies (b .secrecy) (a .secrecy)) (tableImplies (a .integrity) (b .integrity)) (T-eq (flows-halves a b) h)
 
 -- ── each answer ──
 

@@ -1,10 +1,13 @@
--- Bench cases: P1 to P8, each a test, as the start of one table. Assumes nothing.
+-- Bench cases: P1 to P8, each a test, as the start of one table. T-07: "P1 to P5 hold in each of the four words". Assumes
+-- nothing.
 use mathlib.Core.Bool.{Bool, true, not, _&&_}
 use mathlib.Core.List.{List, [], _∷_}
 use Prim.Native.Nat.{ℕ}
 use lib.Dec.{eqb}
 use Rattle.formulas.specs.Formula.{table}
+use Rattle.labels.specs.Tables.{principals, inWords}
 use Rattle.labels.specs.Order.{label, flows, join}
+use Rattle.labels.specs.declared.Table.{Table}
 use Rattle.labels.specs.declared.Label.{Label}
 
 -- the case P number, and whether it holds
@@ -16,16 +19,20 @@ abbrev pub allHold : List Case → Bool
 allHold [] = true
 allHold (c ∷ cs) = c .holds && allHold cs
 
--- the list of clauses has this table
+abbrev sameTable : Table → Table → Bool
+sameTable a b =
+    eqb (a .word0) (b .word0) && eqb (a .word1) (b .word1) && eqb (a .word2) (b .word2) && eqb (a .word3) (b .word3)
+
+-- the list of clauses has a table with this in each of its words
 abbrev tableIs : List ℕ → ℕ → Bool
-tableIs cs t = eqb (table 6 cs) t
+tableIs cs w = sameTable (inWords (table principals cs)) (record { word0 = w; word1 = w; word2 = w; word3 = w })
 
 -- a flows to b, and not back
 abbrev oneWay : Label → Label → Bool
 oneWay a b = flows a b && not (flows b a)
 
 abbrev sameLabel : Label → Label → Bool
-sameLabel a b = eqb (a .secrecy) (b .secrecy) && eqb (a .integrity) (b .integrity)
+sameLabel a b = sameTable (a .secrecy) (b .secrecy) && sameTable (a .integrity) (b .integrity)
 
 -- formulas, as lists of clauses
 abbrev player : List ℕ

@@ -4,20 +4,28 @@ use mathlib.Core.List.{List}
 use mathlib.Core.Logic.{_↔_}
 use mathlib.Core.Path.{_≡_}
 use Prim.Native.Nat.{ℕ, _+_}
-use lib.Bits.{bitAnd, bitOr}
 use lib.Dec.{eqb}
-use Rattle.formulas.specs.Formula.{Arises, table, implies}
+use Rattle.formulas.specs.Formula.{table}
+use Rattle.labels.specs.Tables.{principals, inWords, lowest, tableImplies, tableAnd, tableOr}
+use Rattle.labels.specs.declared.Table.{Table}
 use Rattle.labels.specs.declared.Label.{Label}
 
--- Labels: "There are six principals, numbered 0 to 5: player, dealer, bench, archive, record company, guest."
--- Labels: "A label ⟨S, I⟩ is a secrecy and an integrity formula."
+-- Labels: "A label ⟨S, I⟩ is a secrecy and an integrity formula." Over n principals, and over those that there are.
+abbrev pub labelOver : ℕ → List ℕ → List ℕ → Label
+labelOver n S I = record { secrecy = inWords (table n S); integrity = inWords (table n I) }
+
 abbrev pub label : List ℕ → List ℕ → Label
-label S I = record { secrecy = table 6 S; integrity = table 6 I }
+label = labelOver principals
+
+-- what stands where there is no label: ⟨False, False⟩
+abbrev pub noLabel : Label
+noLabel = record { secrecy = lowest 0; integrity = lowest 0 }
 
 -- Labels: "⟨S, I⟩ flows to ⟨S', I'⟩ if and only if S' implies S and I implies I'."
 -- T-02: "The flow test now tells which half failed": 1 for secrecy, 2 for integrity, 3 for both, and 0 for none.
 unfoldable pub flowTest : Label → Label → ℕ
-flowTest a b = cond (implies (b .secrecy) (a .secrecy)) 0 1 + cond (implies (a .integrity) (b .integrity)) 0 2
+flowTest a b =
+    cond (tableImplies (b .secrecy) (a .secrecy)) 0 1 + cond (tableImplies (a .integrity) (b .integrity)) 0 2
 
 -- an answer n tells which of two implications, secrecy's P and integrity's Q, fails
 pub record Told (n : ℕ) (P Q : Type 0) : Type 0 where
@@ -35,12 +43,16 @@ flows = flowsBy flowTest
 
 -- Labels: "Join is ⟨S and S', I or I'⟩."
 unfoldable pub join : Label → Label → Label
-join a b = record { secrecy = bitAnd (a .secrecy) (b .secrecy); integrity = bitOr (a .integrity) (b .integrity) }
+join a b = record { secrecy = tableAnd (a .secrecy) (b .secrecy); integrity = tableOr (a .integrity) (b .integrity) }
 
 -- Labels: "Meet is ⟨S or S', I and I'⟩."
 unfoldable pub meet : Label → Label → Label
-meet a b = record { secrecy = bitOr (a .secrecy) (b .secrecy); integrity = bitAnd (a .integrity) (b .integrity) }
+meet a b = record { secrecy = tableOr (a .secrecy) (b .secrecy); integrity = tableAnd (a .integrity) (b .integrity) }
+
+-- the table is that of a formula
+abbrev pub Formulated : Table → Type 0
+Formulated t = (cs : List ℕ) × (t ≡ inWords (table principals cs))
 
 -- both tables of the label are those of formulas
 abbrev pub Arising : Label → Type 0
-Arising l = Arises 6 (l .secrecy) × Arises 6 (l .integrity)
+Arising l = Formulated (l .secrecy) × Formulated (l .integrity)

@@ -39,7 +39,7 @@ unfolding widths recordFieldWidths
 length-widths zero = refl
 length-widths (suc n) = let e = length-widths n in omega arith
 
-total-widths : (n : ℕ) → total (widths n) ≡ 36 * n
+total-widths : (n : ℕ) → total (widths n) ≡ 132 * n
 unfolding widths recordFieldWidths
 total-widths zero = refl
 total-widths (suc n) = let e = total-widths n in omega arith
@@ -75,14 +75,14 @@ length-field w rest n k = let e = length-hex (take n rest) in let f = length-tak
 
 -- the fields of the next of m records, k more of which follow
 pub record-here : (rest : List ℕ) (m k : ℕ) → m ≡ suc k
-    → spaced (widths m) rest ≡ spaced recordFieldWidths rest ++ spaced (widths k) (drop 36 rest)
+    → spaced (widths m) rest ≡ spaced recordFieldWidths rest ++ spaced (widths k) (drop 132 rest)
 unfolding widths recordFieldWidths
 record-here rest m k e = ap (λ (n : ℕ). spaced (widths n) rest) e ∙ spaced-append recordFieldWidths (widths k) rest
 
 -- ── the line ──
 
 abbrev pub behindFirst : List ℕ
-behindFirst = 2 ∷ 2 ∷ 2 ∷ 2 ∷ 2 ∷ 2 ∷ 8 ∷ 8 ∷ 8 ∷ 8 ∷ 8 ∷ 8 ∷ []
+behindFirst = 2 ∷ 2 ∷ 2 ∷ 2 ∷ 2 ∷ 2 ∷ 32 ∷ 32 ∷ 32 ∷ 32 ∷ 32 ∷ 32 ∷ []
 
 spaced-first : (w : ℕ) (ws bs : List ℕ) → drop 1 (spaced (w ∷ ws) bs) ≡ hex (take w bs) ++ spaced ws (drop w bs)
 unfolding spaced
@@ -92,18 +92,18 @@ regroup : (a b c d : List ℕ) → (a ++ (b ++ c)) ++ d ≡ a ++ (b ++ (c ++ d))
 regroup a b c d = simp append-assoc
 
 -- the first field, the others before the records, the records', a line feed
-pub line-parts : (v : List ℕ) (k m : ℕ) → Cut 2 v k → Cut 62 v m
+pub line-parts : (v : List ℕ) (k m : ℕ) → Cut 2 v k → Cut 206 v m
     → line v ≡ hex (take k v) ++ (spaced behindFirst (drop k v) ++ (spaced (widths (u16 v 6)) (drop m v) ++ (0x0A ∷ [])))
 unfolding line frontFields
 line-parts v k m c d =
     let n = u16 v 6 in
-    let rest = spaced-append behindFirst (widths n) (drop 2 v) ∙ ap (λ (x : List ℕ). spaced behindFirst (drop 2 v) ++ spaced (widths n) x) (drop-drop 60 2 v) in
+    let rest = spaced-append behindFirst (widths n) (drop 2 v) ∙ ap (λ (x : List ℕ). spaced behindFirst (drop 2 v) ++ spaced (widths n) x) (drop-drop 204 2 v) in
     ap (λ (x : List ℕ). x ++ (0x0A ∷ [])) (spaced-first 2 (behindFirst ++ widths n) v ∙ ap (λ (x : List ℕ). hex (take 2 v) ++ x) rest)
-    ∙ regroup (hex (take 2 v)) (spaced behindFirst (drop 2 v)) (spaced (widths n) (drop 62 v)) (0x0A ∷ [])
+    ∙ regroup (hex (take 2 v)) (spaced behindFirst (drop 2 v)) (spaced (widths n) (drop 206 v)) (0x0A ∷ [])
     ∙ sym (rw (c .taken, c .dropped, d .dropped))
 
 -- the first field is written
-pub first-field : (v b b′ : List ℕ) (k m n : ℕ) → Cut 2 v k → Cut 62 v m → n ≡ u16 v 6 → length (line v) ≤ length b → b′ ≡ over (hex (take k v)) b
+pub first-field : (v b b′ : List ℕ) (k m n : ℕ) → Cut 2 v k → Cut 206 v m → n ≡ u16 v 6 → length (line v) ≤ length b → b′ ≡ over (hex (take k v)) b
     → Writing (line v) (spaced behindFirst (part k v) ++ (spaced (widths n) (part m v) ++ (0x0A ∷ []))) b b′ (2 * k)
 first-field v b b′ k m n c d e h q =
     first (hex (take k v)) whole digits (let f = ap length whole ∙ length-append (hex (take k v)) _ in omega (arith, digits)) q
@@ -114,7 +114,7 @@ first-field v b b′ k m n c d e h q =
     digits : length (hex (take k v)) ≡ 2 * k
     digits = length-hex (take k v) ∙ ap (λ (x : ℕ). 2 * x) (length-take-le k v (c .within))
 
-pub length-line : (v : List ℕ) (n r : ℕ) → n ≡ u16 v 6 → Cut (62 + 36 * n) v r → 13 + 7 * n + 2 * r ≡ length (line v)
+pub length-line : (v : List ℕ) (n r : ℕ) → n ≡ u16 v 6 → Cut (206 + 132 * n) v r → 13 + 7 * n + 2 * r ≡ length (line v)
 unfolding line frontFields
 length-line v n r e c =
     let k = u16 v 6 in
@@ -123,7 +123,7 @@ length-line v n r e c =
     let b = length-drop 1 (spaced ws v) in
     let s = length-spaced ws v in
     let l = length-widths k in
-    let t : total ws ≡ 62 + 36 * n = total-append frontFields (widths k) ∙ (let f = total-widths k in omega arith) in
+    let t : total ws ≡ 206 + 132 * n = total-append frontFields (widths k) ∙ (let f = total-widths k in omega arith) in
     let g : length (take (total ws) v) ≡ r = ap (λ (x : ℕ). length (take x v)) t ∙ ap length (sym (c .taken)) ∙ length-take-le r v (c .within) in
     omega arith
 

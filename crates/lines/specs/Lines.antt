@@ -5,7 +5,9 @@ use mathlib.Core.List.{List, [], _∷_, _++_}
 use Prim.Native.Nat.{ℕ, zero, suc, _+_, _/_, _%_}
 use lib.Dec.{ltb, eqb}
 use lib.ListN.{take, drop}
+use Rattle.labels.specs.Tables.{principals}
 use Rattle.model.specs.Decoding.{u16}
+use Rattle.view_fields.specs.Fields.{tableWidth}
 use Rattle.script_file.specs.Sections.{header}
 use Rattle.script_file.specs.Checks.{refusal}
 use Rattle.view.specs.Reading.{fileView}
@@ -18,12 +20,16 @@ unfoldable pub hex : List ℕ → List ℕ
 hex [] = []
 hex (b ∷ bs) = hexDigit (b / 16) ∷ hexDigit (b % 16) ∷ hex bs
 
--- the widths of the fields: six numbers, the result, label and clearance; and of a record
+-- the widths of the fields: six numbers, the result, label and clearance; and of a record. T-07: "each 32 bytes print as one
+-- field"
 unfoldable pub frontFields : List ℕ
-frontFields = 2 ∷ 2 ∷ 2 ∷ 2 ∷ 2 ∷ 2 ∷ 2 ∷ 8 ∷ 8 ∷ 8 ∷ 8 ∷ 8 ∷ 8 ∷ []
+frontFields =
+    2 ∷ 2 ∷ 2 ∷ 2 ∷ 2 ∷ 2 ∷ 2 ∷ tableWidth principals ∷ tableWidth principals ∷ tableWidth principals ∷ tableWidth principals
+    ∷ tableWidth principals ∷ tableWidth principals ∷ []
 
 unfoldable pub recordFieldWidths : List ℕ
-recordFieldWidths = 1 ∷ 1 ∷ 8 ∷ 8 ∷ 2 ∷ 8 ∷ 8 ∷ []
+recordFieldWidths =
+    1 ∷ 1 ∷ tableWidth principals ∷ tableWidth principals ∷ 2 ∷ tableWidth principals ∷ tableWidth principals ∷ []
 
 -- n records' fields
 unfoldable pub widths : ℕ → List ℕ

@@ -4,6 +4,7 @@ use view::RECORDS;
 use view::SHOWN;
 use view_fields::NUMBER;
 use view_fields::RECORD;
+use view_fields::TABLE;
 ghost use mathlib.Core.Path.{_≡_};
 ghost use mathlib.Core.List.{_∷_};
 ghost use Prim.Native.Nat.{_+_, _*_, _≤_, _<_};
@@ -14,9 +15,23 @@ ghost use Rattle.lines.specs.Lines.{hexDigit, hex, spaced, widths, line,
 ghost use Rattle.lines.specs.Cutting.{Cut};
 
 // The widths of a line's fields: of those before the records, and of a record's.
-const FRONT: [usize; 13] = [2, 2, 2, 2, 2, 2, 2, 8, 8, 8, 8, 8, 8];
+const FRONT: [usize; 13] = [
+    2,
+    2,
+    2,
+    2,
+    2,
+    2,
+    2,
+    TABLE,
+    TABLE,
+    TABLE,
+    TABLE,
+    TABLE,
+    TABLE,
+];
 
-const FIELDS: [usize; 7] = [1, 1, 8, 8, 2, 8, 8];
+const FIELDS: [usize; 7] = [1, 1, TABLE, TABLE, 2, TABLE, TABLE];
 
 // How many records a view shows: its fourth number. A byte that isn't there counts as 0.
 fn records_in(view: &[u8]) -> usize

@@ -9,12 +9,12 @@ use Rattle.machine.specs.declared.State.{State}
 use Rattle.machine.specs.State.{Ok}
 use Rattle.machine.proofs.Methods.{Room}
 
--- ── offsets: a value takes 24 bytes, a frame 32 ──
+-- ── offsets: a value takes 72 bytes, a frame 80 ──
 
-pub value-offset : (n : ℕ) → n < 32 → Fits w64 (n * 24)
+pub value-offset : (n : ℕ) → n < 32 → Fits w64 (n * 72)
 value-offset n h = omega (arith, h)
 
-pub frame-offset : (n : ℕ) → n < 8 → Fits w64 (n * 32)
+pub frame-offset : (n : ℕ) → n < 8 → Fits w64 (n * 80)
 frame-offset n h = omega (arith, h)
 
 -- ── the stack: where a value is pushed ──
@@ -23,7 +23,7 @@ module _ (s : State) {f d m : ℕ} (o : Ok s) (w : Room s 1 f d m) where
   pub pushed-low : s .top - 1 < 32
   pushed-low = omega (arith, w .room, o .stack .index)
 
-  pub pushed-fits : Fits w64 ((s .top - 1) * 24)
+  pub pushed-fits : Fits w64 ((s .top - 1) * 72)
   pushed-fits = value-offset _ pushed-low
 
 -- ── locals ──
@@ -31,7 +31,7 @@ module _ (s : State) {f d m : ℕ} (o : Ok s) (w : Room s 1 f d m) where
 pub in-locals : (i n : ℕ) → n ≡ min i 15 → n < 16
 in-locals i n e = omega (arith, e)
 
-pub local-fits : {n : ℕ} → n < 16 → Fits w64 (n * 24)
+pub local-fits : {n : ℕ} → n < 16 → Fits w64 (n * 72)
 local-fits h = value-offset _ (omega (arith, h))
 
 -- ── frames ──

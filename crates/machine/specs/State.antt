@@ -5,7 +5,7 @@ use mathlib.Core.List.{List}
 use Prim.Native.Nat.{ℕ, _+_, _-_, _≤_, min}
 use lib.ListN.{length, getD, set, drop}
 use Rattle.labels.specs.declared.Label.{Label}
-use Rattle.labels.specs.Order.{join}
+use Rattle.labels.specs.Order.{join, noLabel}
 use Rattle.model.specs.declared.Value.{Value}
 use Rattle.model.specs.declared.Frame.{Frame}
 use Rattle.model.specs.declared.Ending.{Ending}
@@ -18,7 +18,7 @@ use Rattle.machine.specs.declared.Status.the-variants.{Running, Ended}
 use Rattle.machine.specs.declared.State.{State}
 
 abbrev pub no-frame : Frame
-no-frame = record { handler = 0; height = 0; clearance = record { secrecy = 0; integrity = 0 } }
+no-frame = record { handler = 0; height = 0; clearance = noLabel }
 
 -- ── the invariant ──
 

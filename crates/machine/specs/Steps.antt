@@ -6,6 +6,7 @@ use lib.ListN.{length, replicate}
 use Rattle.model.specs.declared.Value.{Value}
 use Rattle.model.specs.State.{Control, Store, Outcome, number}
 use Rattle.model.specs.declared.Account.{Account}
+use Rattle.model.specs.Words.{fileWords}
 use Rattle.store.specs.Slots.{words}
 use Rattle.machine.specs.declared.Status.the-variants.{Running}
 use Rattle.machine.specs.declared.State.{State}
@@ -15,7 +16,7 @@ use Rattle.machine.specs.State.{no-frame}
 -- the lengths that the code relies on
 pub record Sizes (c w s : List ℕ) : Type 0 where
   pub code : length c < 2 ^ 16
-  pub labels : length w < 2 ^ 32
+  pub labels : length w ≡ fileWords
   pub store : length s ≡ words
 
 -- ── the start ──

@@ -35,16 +35,16 @@ pub struct State {
     pub locals: [Value; 16],
     // Grows downwards: the values are those from `top` on, the top one first.
     pub stack: [Value; 32],
-    // As the stack, the newest first.
-    pub frames: [Frame; 8],
     pub top: usize,
     pub newest: usize,
+    // As the stack, the newest first.
+    pub frames: [Frame; 8],
     pub label: Label,
     pub clearance: Label,
-    pub steps: usize,
-    // The places left are those from `next` up to `limit`.
-    pub next: usize,
+    // The places left are those from `next` up to `limit`. Not side by side, or both are loaded at once and wait for their stores.
     pub limit: usize,
+    pub steps: usize,
+    pub next: usize,
     // How many blocks the run is nested in.
     pub depth: usize,
     pub pc: usize,
@@ -421,10 +421,7 @@ fn start(pc: usize, locals: [Value; 16], a: Account) -> State
         frames: [Frame {
             handler: 0,
             height: 0,
-            clearance: Label {
-                secrecy: 0,
-                integrity: 0,
-            },
+            clearance: labels::no_label(),
         }; 8],
         top: 32,
         newest: 8,

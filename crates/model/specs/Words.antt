@@ -1,9 +1,13 @@
--- The labels of a file as words, two to a label: label i is words 2 i and 2 i + 1, and 0 stands behind them. No part of the
+-- The labels of a file as words, eight to a label: label i is the words from 8 i on, and 0 stands behind them. No part of the
 -- definition.
 use mathlib.Core.List.{List}
-use Prim.Native.Nat.{ℕ, _+_, _*_}
-use lib.ListN.{getD}
+use Prim.Native.Nat.{ℕ, _*_}
+use Rattle.labels.specs.Words.{labelFrom}
 use Rattle.labels.specs.declared.Label.{Label}
 
 unfoldable pub labelIn : List ℕ → ℕ → Label
-labelIn ws i = record { secrecy = getD ws (2 * i) 0; integrity = getD ws (2 * i + 1) 0 }
+labelIn ws i = labelFrom ws (8 * i)
+
+-- the words of 32 labels, as many as a file may have
+abbrev pub fileWords : ℕ
+fileWords = 256

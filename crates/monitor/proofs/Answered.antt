@@ -55,7 +55,7 @@ module _ (Number : ℕ → Type 0) (r l : ℕ) (v : List ℕ) (i : ℕ) (b : Lis
 
 -- ── one number for the answer ──
 
--- refusals have one of these numbers, views have 62 bytes at least
+-- refusals have one of these numbers, views have 206 bytes at least
 abbrev pub Bounded : (ℕ → Type 0) → Answer → Type 0
 Bounded Number (Refused n) = Number n
 Bounded Number (Viewed n) = recordsAt ≤ n

@@ -11,7 +11,7 @@ use Rattle.labels.specs.declared.Label.{Label}
 use Rattle.model.specs.State.{Store}
 use Rattle.model.specs.Inputs.{inputSlots}
 use Rattle.model.specs.Running.{startStore}
-use Rattle.view.specs.Layout.{recordsAt, viewLength}
+use Rattle.view.specs.Layout.{recordsAt, lengthOver}
 use Rattle.view.specs.Reading.{Reading}
 use Rattle.view.specs.declared.Answer.{Answer}
 use Rattle.view.specs.declared.Answer.the-variants.{Viewed}
@@ -98,9 +98,9 @@ two-day-calls bs cs i b d r q out back e f A h = subst₂ (SameReads b d) (sym e
 -- ── the call for C and Rust, which answers one number ──
 
 module _ (Reads : Label → Bool) (bs : List ℕ) where
-  -- a view has 62 bytes at least
+  -- a view has 206 bytes at least
   turn-least : (t : Turn) → recordsAt ≤ length (turnView Reads t)
-  unfolding turnView viewLength
+  unfolding turnView lengthOver
   turn-least skipped = omega (arith, length-skipped)
   turn-least (ran s o) = omega (arith, length-view Reads s o)
 

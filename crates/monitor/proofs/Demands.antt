@@ -13,10 +13,10 @@ use Rattle.model.proofs.Costs.{Cost}
 use Rattle.model.proofs.Bounds.{stepsOf, placesOf}
 use Rattle.script_file.specs.Sections.{header, labelAt}
 use Rattle.script_file.specs.Checks.{refusal}
-use Rattle.script_file.specs.Program.{fileInputs, fileProgram, fileAccount, fileRun}
+use Rattle.script_file.specs.Program.{fileInputs, fileProgram, fileAccount, fileRun, fileAccountOver, fileRunOver}
 use Rattle.script_file.proofs.Answers.{refusal-most, within-limits}
-use Rattle.view.specs.Layout.{recordsAt, viewLength}
-use Rattle.view.specs.Reading.{Reading, fileView, reading}
+use Rattle.view.specs.Layout.{recordsAt, lengthOver}
+use Rattle.view.specs.Reading.{Reading, fileView, reading, fileViewOver}
 use Rattle.view.specs.declared.Answer.{Answer}
 use Rattle.view.specs.declared.Answer.the-variants.{Viewed}
 use Rattle.view.proofs.Widths.{length-view}
@@ -52,11 +52,11 @@ numbers bs =
 
 module _ (bs : List ℕ) (i : ℕ) (b : List ℕ) where
   run-charged : refusal bs ≡ 0 → Charged (fileProgram bs) (fileAccount bs) (startStore (inputSlots (fileInputs bs)))
-  unfolding fileAccount
+  unfolding fileAccountOver
   run-charged z = charged (fileProgram bs) (fileAccount bs) (startStore (inputSlots (fileInputs bs))) (within-limits bs z .inputs-fit)
 
   is-viewed : (q : Reading) → refusal bs ≡ 0 → q ≡ viewed (fileView bs i) b → IsViewed bs i b q
-  unfolding fileAccount fileRun filePayments
+  unfolding fileAccountOver fileRunOver filePayments
   is-viewed q z e =
       let c = run-charged z in
       record {
@@ -96,7 +96,7 @@ two-calls bs cs i b d r q out back e f A h = subst₂ (SameReads b d) (sym e) (s
 -- ── the call for C and Rust, which answers one number ──
 
 view-least : (bs : List ℕ) (i : ℕ) → recordsAt ≤ length (fileView bs i)
-unfolding fileView viewLength
+unfolding fileViewOver lengthOver
 view-least bs i = omega (arith, length-view (λ l. flows l (labelAt bs i)) (header bs .steps) (fileRun bs))
 
 bounded : (bs : List ℕ) (i : ℕ) (b : List ℕ) → Bounded FileRefusal (reading bs i b .answer)

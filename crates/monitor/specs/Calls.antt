@@ -19,7 +19,7 @@ FileRefusal n = (1 ≤ n) × (n ≤ 9)
 abbrev pub DayRefusal : ℕ → Type 0
 DayRefusal n = (1 ≤ n) × (n ≤ 10) × (n ≢ 5)
 
--- the answer that a number stands for: no view is shorter than 62 bytes, so below that it is a refusal
+-- the answer that a number stands for: no view is shorter than 206 bytes, so below that it is a refusal
 abbrev pub told : ℕ → Answer
 told n = cond (ltb n recordsAt) (Refused n) (Viewed n)
 

@@ -14,7 +14,7 @@ ghost use Rattle.monitor.specs.Calls.{quoteCode};
 pub fn read(file: &[u8], reader: usize, buffer: &mut [u8]) -> Answer
     ensures { λ r. ⌜ reads r (now (buffer .exit)) ≡ reading (now (file .entry)) reader (now (buffer .entry)) ⌝ }
 {
-    let mut labels = [0u64; 64];
+    let mut labels = [0u64; 256];
     let loaded = script_file::load(file, &mut labels);
     match loaded {
         Loaded::Refused(why) => Answer::Refused(script_file::number(why)),
@@ -22,7 +22,7 @@ pub fn read(file: &[u8], reader: usize, buffer: &mut [u8]) -> Answer
     }
 }
 
-// The same for C and Rust, with one number for an answer: below 62 it is the refusal's, else the view's length.
+// The same for C and Rust, with one number for an answer: below 206 it is the refusal's, else the view's length.
 #[no_mangle]
 pub extern "C" fn nechwalu_read(file: &[u8], reader: usize, buffer: &mut [u8]) -> usize
     ensures { λ r. ⌜ (r ≡ codeOf (reading (now (file .entry)) reader (now (buffer .entry)) .answer)) × (now (buffer .exit) ≡ reading (now (file .entry)) reader (now (buffer .entry)) .buffer) ⌝ }
@@ -37,7 +37,7 @@ pub extern "C" fn nechwalu_read(file: &[u8], reader: usize, buffer: &mut [u8]) -
 pub fn read_day(file: &[u8], reader: usize, buffer: &mut [u8]) -> Answer
     ensures { λ r. ⌜ reads r (now (buffer .exit)) ≡ dayReading (now (file .entry)) reader (now (buffer .entry)) ⌝ }
 {
-    let mut labels = [0u64; 64];
+    let mut labels = [0u64; 256];
     let loaded = day_file::load_day(file, &mut labels);
     match loaded {
         day_file::Loaded::Refused(n) => Answer::Refused(n),
@@ -45,7 +45,7 @@ pub fn read_day(file: &[u8], reader: usize, buffer: &mut [u8]) -> Answer
     }
 }
 
-// The same for C and Rust, with one number for an answer: below 62 it is the refusal's, else the length of the views.
+// The same for C and Rust, with one number for an answer: below 206 it is the refusal's, else the length of the views.
 #[no_mangle]
 pub extern "C" fn nechwalu_read_day(file: &[u8], reader: usize, buffer: &mut [u8]) -> usize
     ensures { λ r. ⌜ (r ≡ codeOf (dayReading (now (file .entry)) reader (now (buffer .entry)) .answer)) × (now (buffer .exit) ≡ dayReading (now (file .entry)) reader (now (buffer .entry)) .buffer) ⌝ }

@@ -22,14 +22,14 @@ use Rattle.model.proofs.Cap.{Capped, cap-holds, cap-at-end}
 use Rattle.script_file.specs.Sections.{header, recordBytes, codeBytes, labelAt}
 use Rattle.formulas.specs.Lists.{among}
 use Rattle.code_check.specs.Sweep.{starts, instrOk, codeOk}
-use Rattle.script_file.specs.Checks.{passes5, passes7, refusal}
-use Rattle.script_file.specs.Program.{fileInputs, fileProgram, fileAccount, fileRun}
+use Rattle.script_file.specs.Checks.{passes7, refusal, passes5Over}
+use Rattle.script_file.specs.Program.{fileInputs, fileProgram, fileAccount, fileRun, fileAccountOver, fileProgramOver, fileRunOver}
 use Rattle.script_file.proofs.Answers.{accepted as passes, within-limits, in-place}
-use Rattle.view.specs.Reading.{fileView}
+use Rattle.view.specs.Reading.{fileView, fileViewOver}
 use Rattle.view.proofs.LengthField.{length-field-places}
 use Rattle.noninterference.proofs.Demand3.{low-set, preorder}
 use Rattle.noninterference.proofs.Starts.{start-ok, lands, start-zero}
-use Rattle.file_sections.specs.Sections.{inputsOf}
+use Rattle.file_sections.specs.Sections.{inputsOver}
 
 -- what holds of each state that a run of a program with this code comes to, where there are l labels and n input records
 pub record OnCode (l n : ℕ) (code : List ℕ) (P : Program) (c : Control) (σ : Store) : Type 0 where
@@ -88,7 +88,7 @@ module _ (bs : List ℕ) (ok : refusal bs ≡ 0) where
   start = startStore (inputSlots (fileInputs bs))
 
   fresh : Fresh (fileAccount bs) start
-  unfolding fileAccount start inputsOf
+  unfolding fileAccountOver start inputsOver
   fresh =
       start-fresh (fileInputs bs) (labelAt bs 0) (labelAt bs 1) (header bs .steps) (header bs .records .count) (header bs .places)
       (sym (length-inputs (labelAt bs) (recordBytes bs) (header bs .records .count) 0)) (within-limits bs ok .places)
@@ -96,7 +96,7 @@ module _ (bs : List ℕ) (ok : refusal bs ≡ 0) where
   -- Accepted files never meet the totals.
   pub accepted : (c : Control) (a : Account) (σ : Store)
       → Reached (fileProgram bs) startControl (fileAccount bs) (startStore (inputSlots (fileInputs bs))) c a σ → NoTotals bs c σ
-  unfolding passes7 fileProgram start
+  unfolding passes7 fileProgramOver start
   accepted =
       reached-on-code (header bs .labels .count) (header bs .records .count) (codeBytes bs) (labelAt bs) (fileInputs bs) (passes bs ok .code) code-there
       (fileAccount bs) start fresh (start-closed (fileProgram bs) (fileInputs bs) refl)
@@ -105,26 +105,26 @@ module _ (bs : List ℕ) (ok : refusal bs ≡ 0) where
   pub file-capped : (c : Control) (a : Account) (σ : Store)
       → Reached (fileProgram bs) startControl (fileAccount bs) (startStore (inputSlots (fileInputs bs))) c a σ
       → Capped (fileProgram bs) (labelAt bs 1) c a
-  unfolding passes5 fileProgram fileAccount
+  unfolding passes5Over fileProgramOver fileAccountOver
   file-capped =
       cap-holds (fileProgram bs) (preorder (codeBytes bs) (labelAt bs) (fileInputs bs)) startControl (fileAccount bs)
       (startStore (inputSlots (fileInputs bs))) refl (passes bs ok .start)
 
   pub file-ends-capped : (flows (fileRun bs .account .label) (fileRun bs .account .clearance) ≡ true)
       × (flows (fileRun bs .account .clearance) (labelAt bs 1) ≡ true)
-  unfolding passes5 fileProgram fileAccount fileRun
+  unfolding passes5Over fileProgramOver fileAccountOver fileRunOver
   file-ends-capped =
       cap-at-end (fileProgram bs) (preorder (codeBytes bs) (labelAt bs) (fileInputs bs)) startControl (fileAccount bs)
       (startStore (inputSlots (fileInputs bs))) refl (passes bs ok .start)
 
   -- the run of a file keeps the 256 places of the store
   store-places : length (fileRun bs .store) ≡ 256
-  unfolding fileRun fileProgram runs start startStore inputsOf
+  unfolding fileRunOver fileProgramOver runs start startStore inputsOver
   store-places =
       sym (run-kept (fileProgram bs) anyLabel (every-label (codeBytes bs) (labelAt bs) (fileInputs bs)) (fileAccount bs .steps) startControl (fileAccount bs) start fresh .sized)
       ∙ simp (length-append, length-replicate, length-slots, length-inputs) (omega (arith, within-limits bs ok .records))
 
   -- "A view is as many bytes as its length field says."
   pub view-length : (i : ℕ) → u16 (fileView bs i) 10 ≡ length (fileView bs i)
-  unfolding fileView
+  unfolding fileViewOver
   view-length i = length-field-places (λ l. flows l (labelAt bs i)) (header bs .steps) (fileRun bs) (omega (arith, store-places))

@@ -22,15 +22,15 @@ use Rattle.model.proofs.LowEquivalence.{LowOutcomes}
 use Rattle.model.proofs.Start.{AlikeInputs, alike-handles, length-inputs, two-starts}
 use Rattle.script_file.specs.declared.Header.{Header}
 use Rattle.script_file.specs.Sections.{header, sections, recordBytes, codeBytes, labelAt}
-use Rattle.script_file.specs.Checks.{passes1, passes2, passes3, passes4, passes5, passes7, refusal}
-use Rattle.script_file.specs.Program.{fileInputs, fileProgram, fileAccount, fileRun}
+use Rattle.script_file.specs.Checks.{passes1, passes2, passes3, passes7, refusal, passes4Over, passes5Over, refusalOver}
+use Rattle.script_file.specs.Program.{fileInputs, fileProgram, fileAccount, fileRun, fileAccountOver, fileProgramOver, fileRunOver}
 use Rattle.script_file.proofs.Limits.{counted}
 use Rattle.view.specs.Layout.{view}
-use Rattle.view.specs.Reading.{fileView, show, answered, reading}
+use Rattle.view.specs.Reading.{fileView, show, answered, reading, fileViewOver}
 use Rattle.view.proofs.SameView.{same-view}
 use Rattle.noninterference.specs.Alike.{legible, Alike, SameReads, both-refused, both-viewed}
 use Rattle.noninterference.proofs.Sections.{legible-each, one-or-legible, same-header, same-file-labels, same-file-label, same-code, alike-file-inputs}
-use Rattle.file_sections.specs.Sections.{inputsOf}
+use Rattle.file_sections.specs.Sections.{inputsOver}
 
 -- ── the labels that a reader sees ──
 
@@ -63,7 +63,7 @@ module _ (bs cs : List ℕ) (i : ℕ) (A : Alike bs cs i) (lb : legible bs i ≡
   he = same-header bs cs i A lb lc
 
   pub same-refusal : refusal bs ≡ refusal cs
-  unfolding refusal passes1 passes2 passes3 passes4 passes5 passes7
+  unfolding refusalOver passes1 passes2 passes3 passes4Over passes5Over passes7
   same-refusal =
       let six = legible-each bs i lb .1 .1 .1 .1 .0 in
       let six′ = legible-each cs i lc .1 .1 .1 .1 .0 in
@@ -73,12 +73,12 @@ module _ (bs cs : List ℕ) (i : ℕ) (A : Alike bs cs i) (lb : legible bs i ≡
   alike = alike-file-inputs bs cs i A lb lc
 
   same-program : fileProgram bs ≡ fileProgram cs
-  unfolding fileProgram
+  unfolding fileProgramOver
   same-program =
       cc (same-code bs cs i A lb lc, same-file-label bs cs i A lb lc, alike-handles (λ l. flows l (labelAt bs i)) 0 (fileInputs bs) (fileInputs cs) alike)
 
   same-account : fileAccount bs ≡ fileAccount cs
-  unfolding fileAccount
+  unfolding fileAccountOver
   same-account = cc (he, same-file-label bs cs i A lb lc)
 
   -- the run of the first file's program, on the second file's input records
@@ -86,18 +86,18 @@ module _ (bs cs : List ℕ) (i : ℕ) (A : Alike bs cs i) (lb : legible bs i ≡
   middle = runs (fileProgram bs) startControl (fileAccount bs) (startStore (inputSlots (fileInputs cs)))
 
   two : LowOutcomes (fileProgram bs) (λ l. flows l (labelAt bs i)) (fileRun bs) middle
-  unfolding fileRun fileProgram fileAccount middle inputsOf passes2
+  unfolding fileRunOver fileProgramOver fileAccountOver middle inputsOver passes2
   two =
       two-starts (fileProgram bs) (λ l. flows l (labelAt bs i)) (fileInputs bs) (fileInputs cs) alike (readable (codeBytes bs) (labelAt bs) (fileInputs bs) (labelAt bs i)) refl
       (labelAt bs 0) (labelAt bs 1) (header bs .steps) (header bs .records .count) (header bs .places)
       (sym (length-inputs (labelAt bs) (recordBytes bs) (header bs .records .count) 0)) (counted (header bs) (legible-each bs i lb .1 .0) .places)
 
   same-run : middle ≡ fileRun cs
-  unfolding fileRun middle
+  unfolding fileRunOver middle
   same-run = cc (same-program, same-account)
 
   views-alike : fileView bs i ≡ fileView cs i
-  unfolding fileView
+  unfolding fileViewOver
   views-alike =
       same-view (λ l. flows l (labelAt bs i)) (λ l. flows l (labelAt bs i)) (λ l e. e) (fileProgram bs) (header bs .steps) (fileRun bs) middle two
       ∙ ap (view (λ l. flows l (labelAt bs i)) (header bs .steps)) same-run

@@ -10,8 +10,9 @@ use native.Mathlib.Omega.{arith}
 use lib.ListN.{set, replicate, length-set}
 use lib.Seq.{getD-set-other}
 use Rattle.formulas.specs.Formula.{holds, table, implies}
+use Rattle.labels.specs.Tables.{tableImplies}
 use Rattle.labels.specs.Order.{flowTest, flows, join}
-use Rattle.label_entries.specs.Entries.{wellFormed, readEntry}
+use Rattle.label_entries.specs.Entries.{readEntryOver, wellFormedOver}
 use Rattle.model.specs.Decoding.{byte, u16, u32, operandBytes, known, size, instrs, fetch, after}
 use Rattle.model.specs.Operands.{popFrom, asNumber, asLabel, asHandle, asSealed, asReference, arity, dropFrame, operate, plan}
 use Rattle.model.specs.Effects.{failTo, yield, openSlot, labelSlot, writeSlot, contentsOf, outcome, act}
@@ -19,14 +20,14 @@ use Rattle.model.specs.Inputs.{inputs, handles, inputSlots}
 use Rattle.model.specs.Running.{perform, step, resume, pay, run, runs, startStore}
 use Rattle.script_file.specs.Sections.{header, sections, codeBytes, labelAt}
 use Rattle.code_check.specs.Sweep.{sweep, starts, operandsOk, instrOk, mayBeLast, codeOk}
-use Rattle.script_file.specs.Checks.{sizeOk, countsOk, offsetsOk, passes1, passes2, passes3, passes4, passes5, passes6, passes7, refusal}
-use Rattle.script_file.specs.Program.{fileProgram, fileAccount, fileRun}
+use Rattle.script_file.specs.Checks.{sizeOk, countsOk, offsetsOk, passes1, passes2, passes3, passes6, passes7, refusal, passes4Over, passes5Over, refusalOver}
+use Rattle.script_file.specs.Program.{fileAccountOver, fileProgramOver, fileRunOver}
 use Rattle.view_fields.specs.Fields.{littleEndian, labelField, datumField, contentsField, endingNumber, resultField, kindByte, recordField}
 use Rattle.model.specs.State.{shown}
-use Rattle.view.specs.Layout.{slotField, recordFields, recordsShown, counts, final, viewLength, view}
-use Rattle.view.specs.Reading.{fileView}
+use Rattle.view.specs.Layout.{slotField, recordFields, recordsShown, counts, final, lengthOver, viewOver}
+use Rattle.view.specs.Reading.{fileView, fileViewOver}
 use Rattle.noninterference.specs.Alike.{legible, inputLabel, Hidden, Alike}
-use Rattle.file_sections.specs.Sections.{readLabels, inputsOf, labelBytesOf, labelOf, labelsOf, recordBytesOf}
+use Rattle.file_sections.specs.Sections.{labelBytesOf, recordBytesOf, labelsOver, readLabelsOver, inputsOver, labelOfOver}
 use Rattle.file_sections.specs.Checks.{every, recordsOk}
 
 -- L 2, C 1, N 13, S 20, K 2. Labels: public; ⟨player, True⟩, which is the clearance too. One sealed record, under ⟨player, True⟩,
@@ -43,14 +44,14 @@ template =
 unfoldable pub file : ℕ → List ℕ
 file n = set template 23 n
 
--- what the public reader is shown of either: result, 8 steps (LAB 1, BLOCK 1 and 5, END 1), next place 2, no record, 62, 62;
+-- what the public reader is shown of either: result, 8 steps (LAB 1, BLOCK 1 and 5, END 1), next place 2, no record, 206, 206;
 -- the handle to the sealed outcome at place 1; the label public and the clearance ⟨player, True⟩
 unfoldable pub publicView : List ℕ
 publicView =
-    1 ∷ 0 ∷ 8 ∷ 0 ∷ 2 ∷ 0 ∷ 0 ∷ 0 ∷ 62 ∷ 0 ∷ 62 ∷ 0
-    ∷ 3 ∷ 0 ∷ 1 ∷ replicate 15 0
-    ++ replicate 16 0xFF
-    ++ replicate 8 0xAA ++ replicate 8 0xFF
+    1 ∷ 0 ∷ 8 ∷ 0 ∷ 2 ∷ 0 ∷ 0 ∷ 0 ∷ 206 ∷ 0 ∷ 206 ∷ 0
+    ∷ 3 ∷ 0 ∷ 1 ∷ replicate 63 0
+    ++ replicate 64 0xFF
+    ++ replicate 32 0xAA ++ replicate 32 0xFF
 
 -- by running both files, from bytes to view
 pub record Computed : Type 0 where
@@ -62,12 +63,12 @@ pub record Computed : Type 0 where
   pub hides : flows (inputLabel (sections (file 7)) (file 7) 0) (labelAt (file 7) 0) ≡ false
   pub loads : refusal (file 7) ≡ 0
   pub shows : fileView (file 7) 0 ≡ publicView
-  -- byte 118 of what the reader ⟨player, True⟩ is shown is of the outcome's number: the block did open the record
-  pub opens-7 : byte (fileView (file 7) 1) 118 ≡ 7
-  pub opens-9 : byte (fileView (file 9) 1) 118 ≡ 9
+  -- byte 406 of what the reader ⟨player, True⟩ is shown is of the outcome's number: the block did open the record
+  pub opens-7 : byte (fileView (file 7) 1) 406 ≡ 7
+  pub opens-9 : byte (fileView (file 9) 1) 406 ≡ 9
 
 pub computed : Computed
-unfolding file template publicView legible holds table implies flowTest join wellFormed readEntry u16 u32 operandBytes known size instrs fetch after popFrom asNumber asLabel asHandle asSealed asReference arity dropFrame operate plan failTo yield openSlot labelSlot writeSlot contentsOf outcome act inputs handles inputSlots perform step resume pay run runs startStore header labelBytesOf recordBytesOf codeBytes readLabels labelsOf labelOf sweep starts operandsOk instrOk mayBeLast codeOk every sizeOk countsOk offsetsOk recordsOk passes1 passes2 passes3 passes4 passes5 passes6 passes7 refusal inputsOf fileProgram fileAccount fileRun littleEndian labelField datumField contentsField endingNumber resultField kindByte recordField shown slotField recordFields recordsShown counts final viewLength view fileView
+unfolding file template publicView legible holds table implies tableImplies flowTest join wellFormedOver readEntryOver u16 u32 operandBytes known size instrs fetch after popFrom asNumber asLabel asHandle asSealed asReference arity dropFrame operate plan failTo yield openSlot labelSlot writeSlot contentsOf outcome act inputs handles inputSlots perform step resume pay run runs startStore header labelBytesOf recordBytesOf codeBytes readLabelsOver labelsOver labelOfOver sweep starts operandsOk instrOk mayBeLast codeOk every sizeOk countsOk offsetsOk recordsOk passes1 passes2 passes3 passes4Over passes5Over passes6 passes7 refusalOver inputsOver fileProgramOver fileAccountOver fileRunOver littleEndian labelField datumField contentsField endingNumber resultField kindByte recordField shown slotField recordFields recordsShown counts final lengthOver viewOver fileViewOver
 computed =
     record {
       legible-7 = refl;

@@ -9,7 +9,7 @@ use native.Mathlib.Omega.{arith}
 use lib.Dec.{ltb, lit<}
 use lib.ListN.{length, getD, take, drop, length-take, length-drop}
 use lib.Seq.{ext-getD, getD-take, getD-drop}
-use Rattle.labels.specs.Order.{flows}
+use Rattle.labels.specs.Order.{flows, noLabel}
 use Rattle.labels.specs.declared.Label.{Label}
 use Rattle.model.specs.Decoding.{byte, u16, u32}
 use Rattle.model.specs.Inputs.{kindOf, inputs}
@@ -18,7 +18,7 @@ use Rattle.script_file.specs.declared.Header.{Header}
 use Rattle.script_file.specs.Sections.{header, sections, codeBytes, fileLabels, labelAt}
 use Rattle.script_file.specs.Checks.{passes1, passes2, passes3, passes4, passes6}
 use Rattle.script_file.specs.Program.{fileInputs}
-use Rattle.file_sections.specs.Sections.{Sections, readLabels, orNone, inputsOf, labelBytesOf, labelOf, labelsOf, recordBytesOf}
+use Rattle.file_sections.specs.Sections.{Sections, readLabels, orNone, inputsOf, labelBytesOf, labelOf, labelsOf, recordBytesOf, labelsOver, inputsOver, labelOfOver}
 use Rattle.file_sections.proofs.Tests.{Each, every-each}
 use Rattle.script_file.proofs.Limits.{Placed, placed}
 use Rattle.noninterference.specs.Alike.{recordAt, inputLabel, Hidden, AlikeBy, legible, Alike}
@@ -55,14 +55,14 @@ module _ (bs cs : List ℕ) (s : Sections) (i : ℕ) (sized : length bs ≡ leng
   behind-records p le = same-byte p (λ h. omega (arith, h .counted, h .to))
 
   pub same-labels : labelsOf s bs ≡ labelsOf s cs
-  unfolding labelsOf labelBytesOf
+  unfolding labelsOver labelBytesOf
   same-labels =
       ap (readLabels (s .labels))
       (same-slice bs cs sized (s .first) (s .records .offset - s .first) (λ p _ lt. before-records p (omega (arith, ordered))))
 
   pub same-label : labelOf s bs ≡ labelOf s cs
-  unfolding labelOf
-  same-label = ap {B = ℕ → Label} (λ (o : Option (List Label)) (p : ℕ). getD (orNone o) p (record { secrecy = 0; integrity = 0 })) same-labels
+  unfolding labelOfOver
+  same-label = ap {B = ℕ → Label} (λ (o : Option (List Label)) (p : ℕ). getD (orNone o) p noLabel) same-labels
 
   -- kind and label index of input record j
   record-front : (j p : ℕ) → recordAt s j ≤ p → p < recordAt s j + 2 → byte bs p ≡ byte cs p
@@ -105,7 +105,7 @@ module _ (bs cs : List ℕ) (s : Sections) (i : ℕ) (sized : length bs ≡ leng
           (subst (λ (x : ℕ). flows (labelOf s bs x) (labelOf s bs i) ≡ true) (record-byte s bs (6 * j + 1) (omega arith) ∙ ap (byte bs) (omega arith)) f))
 
   pub alike-inputs : AlikeInputs (λ l. flows l (labelOf s bs i)) (inputsOf s bs) (inputsOf s cs)
-  unfolding inputsOf
+  unfolding inputsOver
   alike-inputs =
       subst (λ (ls : ℕ → Label). AlikeInputs (λ l. flows l (labelOf s bs i)) (inputsOf s bs) (inputs ls (recordBytesOf s cs) (s .records .count) 0))
       same-label (alike-from (s .records .count) 0 (omega arith))

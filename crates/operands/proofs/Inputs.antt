@@ -8,8 +8,10 @@ use native.Mathlib.Nat.{add-zero, zero-add}
 use native.Mathlib.Omega.{arith}
 use lib.Dec.{ltb}
 use borrow.Author.Tests.{lt-ltb, le-ltb, ltb-true, ltb-false}
-use lib.ListN.{length, getD, List·getD-eq-default}
+use lib.ListN.{length, getD}
+use Rattle.labels.specs.Order.{noLabel}
 use Rattle.labels.specs.declared.Label.{Label}
+use Rattle.labels.proofs.Words.{label-past}
 use Rattle.model.specs.declared.Kind.the-variants.{Reference}
 use Rattle.model.specs.declared.Value.{Value}
 use Rattle.model.specs.declared.Datum.{Datum}
@@ -17,19 +19,16 @@ use Rattle.model.specs.declared.Datum.the-variants.{Number, Handle}
 use Rattle.model.specs.State.{value, number}
 use Rattle.model.specs.Decoding.{byte}
 use Rattle.model.specs.Inputs.{kindOf, inputs, handles}
-use Rattle.model.specs.Words.{labelIn}
+use Rattle.model.specs.Words.{labelIn, fileWords}
 use Rattle.operands.specs.Program.{count, program}
 
 -- what INPUT pushes
 unfoldable pub inputAt : List ℕ → ℕ → Datum
 inputAt rs i = cond (ltb i (count rs)) (Handle (kindOf (byte rs (6 * i))) i) (Number 0)
 
-pub label-out : (ws : List ℕ) (i : ℕ) → length ws ≤ i → record { secrecy = 0; integrity = 0 } ≡ labelIn ws i
+pub label-out : (ws : List ℕ) (i : ℕ) → length ws ≡ fileWords → 32 ≤ i → noLabel ≡ labelIn ws i
 unfolding labelIn
-label-out ws i h =
-    let a : length ws ≤ 2 * i = omega arith in
-    let b : length ws ≤ 2 * i + 1 = omega arith in
-    sym (rw (List·getD-eq-default ws 0 a, List·getD-eq-default ws 0 b))
+label-out ws i e h = sym (label-past ws (8 * i) (omega arith))
 
 input-handle : (ls : ℕ → Label) (bs : List ℕ) (n b p i : ℕ) → i < n
     → getD (handles p (inputs ls bs n b)) i (number 0) ≡ value (Handle (kindOf (byte bs (b + 6 * i))) (p + i))

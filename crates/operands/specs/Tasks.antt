@@ -5,7 +5,7 @@ use mathlib.Core.List.{List}
 use Prim.Native.Nat.{ℕ, _+_, _-_, _*_, _^_, _%_}
 use lib.Dec.{ltb, eqb}
 use Rattle.labels.specs.declared.Label.{Label}
-use Rattle.labels.specs.Order.{flows}
+use Rattle.labels.specs.Order.{flows, noLabel}
 use Rattle.model.specs.Decoding.{byte}
 use Rattle.model.specs.Inputs.{kindOf}
 use Rattle.model.specs.declared.Kind.the-variants.{Sealed, Reference}
@@ -79,9 +79,9 @@ onNumbers (OnTwo f) y x = numbersOf f y x
 -- ── two labels ──
 
 abbrev pub labelOf : Datum → Label
-labelOf (Number n) = record { secrecy = 0; integrity = 0 }
+labelOf (Number n) = noLabel
 labelOf (Labelled l) = l
-labelOf (Handle h p) = record { secrecy = 0; integrity = 0 }
+labelOf (Handle h p) = noLabel
 
 abbrev pub pairOf : Pair → Label → Label → Decision
 pairOf Flowing m l = bitOf (flows l m)

@@ -8,7 +8,7 @@ ghost use mathlib.Core.Path.{_≡_};
 ghost use Prim.Native.Nat.{_^_, _<_};
 ghost use lib.ListN.{length, getD};
 ghost use Rattle.model.specs.Inputs.{kindOf};
-ghost use Rattle.model.specs.Words.{labelIn};
+ghost use Rattle.model.specs.Words.{labelIn, fileWords};
 ghost use Rattle.operands.specs.Tasks.{decided, thrown, faulty, bitOf, arithOf, numbersOf, testOf, numberOf, onNumbers, labelOf, pairOf, labelsOf, shortOf, pushOf, tryOf, doneOf, inputOf, taskOf};
 
 // Where a label lies that is to be pushed.
@@ -222,20 +222,14 @@ pub fn on_numbers(t: NumberTask, y: Datum, x: Datum) -> Decision
 
 // ---- labels
 
-// The label that a datum is; ⟨0, 0⟩ for any other.
+// The label that a datum is; ⟨False, False⟩ for any other.
 pub fn label_of(d: Datum) -> Label
     ensures { λ r. ⌜ r ≡ labelOf d ⌝ }
 {
     match d {
-        Datum::Number(_) => Label {
-            secrecy: 0,
-            integrity: 0,
-        },
+        Datum::Number(_) => labels::no_label(),
         Datum::Label(l) => l,
-        Datum::Handle(_, _) => Label {
-            secrecy: 0,
-            integrity: 0,
-        },
+        Datum::Handle(_, _) => labels::no_label(),
     }
 }
 
@@ -266,30 +260,15 @@ pub fn two_labels(f: Pair, y: Datum, x: Datum) -> Decision
 
 // ---- the file's own values
 
-// Label i of the file: words 2i and 2i + 1; past the end stands 0.
+// Label i of the file: the eight words from 8 i on.
 pub fn label_at(labels: &[u64], i: usize) -> Label
-    requires { ⌜ length (now labels) < 2 ^ 32 ⌝ }
+    requires { ⌜ length (now labels) ≡ fileWords ⌝ }
     ensures { λ r. ⌜ r ≡ labelIn (now (labels .entry)) i ⌝ }
 {
-    if labels.len() <= i {
-        return Label {
-            secrecy: 0,
-            integrity: 0,
-        };
+    if 32 <= i {
+        return labels::no_label();
     }
-    Label {
-        secrecy: word_at(labels, 2 * i),
-        integrity: word_at(labels, 2 * i + 1),
-    }
-}
-
-fn word_at(s: &[u64], i: usize) -> u64
-    ensures { λ r. ⌜ r ≡ getD (now (s .entry)) i 0 ⌝ }
-{
-    if i < s.len() {
-        return s[i];
-    }
-    0
+    labels::label_from(labels, 8 * i)
 }
 
 // The kind of an input record, by the first of its six bytes.

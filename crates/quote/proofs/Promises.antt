@@ -23,7 +23,7 @@ use Rattle.code_check.proofs.Starts.{from}
 use Rattle.noninterference.proofs.Starts.{all-among}
 use Rattle.script_file.specs.Sections.{header, codeBytes}
 use Rattle.script_file.specs.Checks.{refusal}
-use Rattle.script_file.specs.Program.{fileInputs, fileProgram, fileAccount, fileRun}
+use Rattle.script_file.specs.Program.{fileInputs, fileProgram, fileAccount, fileRun, fileAccountOver, fileProgramOver, fileRunOver}
 use Rattle.script_file.proofs.Answers.{refusal-most}
 use Rattle.quote.specs.Paths.{Path, pathCost, largest}
 use Rattle.quote.specs.Quoting.{Node, node, nodeAt, stepsAt, placesAt, successorsAt, aheadAt, allAhead, figuresFrom, codeQuote, quoting}
@@ -216,14 +216,14 @@ module _ (bs : List ℕ) (f : Figures) (q : quoting bs ≡ Quoted f) where
 
   -- No run of a file with that code uses more, whatever its labels, records, numbers, steps and places.
   pub no-run-more : (cs : List ℕ) → codeBytes cs ≡ codeBytes bs → Uses (f .steps) (f .places) (fileAccount cs) (fileRun cs .account)
-  unfolding fileRun fileProgram
+  unfolding fileRunOver fileProgramOver
   no-run-more cs e =
       quote-bounds (fileProgram cs) (record { fetches = ap fetch e; goes-on = ap after e }) startControl refl refl (fileAccount cs)
       (startStore (inputSlots (fileInputs cs)))
 
   -- So one that declares more steps never ends spent.
   pub never-spent : (cs : List ℕ) → codeBytes cs ≡ codeBytes bs → f .steps < header cs .steps → fileRun cs .ending ≢ Spent
-  unfolding fileRun fileAccount
+  unfolding fileRunOver fileAccountOver
   never-spent cs e more spent =
       omega (
         arith,

@@ -19,17 +19,17 @@ use Rattle.store.specs.Slots.{parts, slots}
 use Rattle.script_file.specs.Sections.{header, recordBytes, codeBytes, fileLabels, labelAt}
 use Rattle.script_file.specs.Checks.{refusal}
 use Rattle.script_file.specs.Loading.{refusalNumber, loaded, wordsAfter}
-use Rattle.script_file.specs.Program.{fileAccount, fileRun}
+use Rattle.script_file.specs.Program.{fileRun, fileAccountOver, fileRunOver}
 use Rattle.script_file.specs.declared.Header.{Header}
 use Rattle.script_file.specs.declared.Refusal.{Refusal}
 use Rattle.script_file.specs.declared.Loaded.the-variants.{Refused as Stopped, File}
 use Rattle.script_file.proofs.Limits.{Counted, Placed}
-use Rattle.file_sections.specs.Sections.{inputsOf}
+use Rattle.file_sections.specs.Sections.{inputsOver}
 use Rattle.file_sections.proofs.Labels.{length-lent}
 use Rattle.script_file.proofs.Answers.{number-within, refused-number, file-number, file-header, loads, within-limits, in-place}
 use Rattle.script_file.proofs.Findings.{recordsIn, codeIn, records-in, code-in}
 use Rattle.view.specs.Layout.{view}
-use Rattle.view.specs.Reading.{Reading, refuse, show, reading, fileView}
+use Rattle.view.specs.Reading.{Reading, refuse, show, reading, fileView, fileViewOver}
 use Rattle.view_fields.specs.Writing.{over}
 use Rattle.view.specs.Writing.{observes, finished, shownIn}
 use Rattle.view.proofs.Widths.{view-finished}
@@ -86,18 +86,18 @@ module _ (bs : List ℕ) (h : Header) (ws : List ℕ) (w : Loads bs h ws) where
   pub run-is : (l c : Label) (σ : Store) → l ≡ labelIn ws 0 → c ≡ labelIn ws 1
       → σ ≡ startStore (inputSlots (inputs (labelIn ws) (recordsIn h bs) (count (recordsIn h bs)) 0))
       → runs (program (codeIn h bs) ws (recordsIn h bs)) startControl (startAccount l c (h .steps) (count (recordsIn h bs)) (h .places)) σ ≡ fileRun bs
-  unfolding fileRun fileAccount inputsOf
+  unfolding fileRunOver fileAccountOver inputsOver
   run-is l c σ el ec es =
       rw (el, ec, es, records-are, code-is, w .numbers, w .labels, program-is bs (w .none), labels-are bs (w .none), records-counted bs (w .none))
 
-pub no-records : slots (replicate 1536 0) ≡ noRecords
+pub no-records : slots (replicate 4608 0) ≡ noRecords
 unfolding slots parts
 no-records = refl
 
 -- ── the answers ──
 
 -- the labels' words are as many as before, however the file loads
-pub length-words : (bs was ws : List ℕ) → length was ≡ 64 → ws ≡ wordsAfter bs was → length ws ≡ 64
+pub length-words : (bs was ws : List ℕ) → length was ≡ 256 → ws ≡ wordsAfter bs was → length ws ≡ 256
 unfolding wordsAfter
 length-words bs = length-lent (refusal bs) (fileLabels bs)
 
@@ -116,7 +116,7 @@ read-loads bs h was ws e f =
 -- what label i is shown of what the run left
 pub shown-view : (bs : List ℕ) (h : Header) (ws : List ℕ) → Loads bs h ws → (i : ℕ) (l : Label) (f : Finished) (σ : Store)
     → l ≡ labelIn ws i → Finishes f σ (fileRun bs) → view (observes l) (h .steps) (finished f σ) ≡ fileView bs i
-unfolding fileView
+unfolding fileViewOver
 shown-view bs h ws w i l f σ e k =
     rw (e, w .labels, labels-are bs (w .none), w .numbers, ← k .store)
     (sym (view-finished (observes (labelAt bs i)) (header bs .steps) (fileRun bs) f (k .ending) (k .label) (k .clearance) (k .steps) (k .next)))

@@ -7,7 +7,7 @@ use native.Mathlib.Omega.{arith}
 use lib.Dec.{eqb·suc-zero}
 use lib.ListN.{length, getD}
 use Rattle.script_file.specs.Sections.{header, fileLabels}
-use Rattle.script_file.specs.Checks.{passes1, passes2, passes3, passes4, passes5, passes6, passes7, lowest, refusal}
+use Rattle.script_file.specs.Checks.{passes1, passes2, passes3, passes4, passes5, passes6, passes7, lowest, refusal, refusalOver}
 use Rattle.script_file.specs.Loading.{refusalNumber, refusals, answer, loaded, wordsAfter}
 use Rattle.script_file.specs.declared.Header.{Header}
 use Rattle.script_file.specs.declared.Refusal.{Refusal}
@@ -26,7 +26,7 @@ numberOf (File h) = 0
 
 -- The answer's number is the lowest that applies.
 answer-number : (bs : List ℕ) → numberOf (loaded bs) ≡ refusal bs
-unfolding refusalNumber loaded refusal
+unfolding refusalNumber loaded refusalOver
 answer-number bs = each (passes1 bs) (passes2 bs) (passes3 bs) (passes4 bs) (passes5 bs) (passes6 bs) (passes7 bs) where
   each : (a b c d e f g : Bool) → numberOf (answer (lowest 1 (a ∷ b ∷ c ∷ d ∷ e ∷ f ∷ g ∷ [])) (header bs)) ≡ lowest 1 (a ∷ b ∷ c ∷ d ∷ e ∷ f ∷ g ∷ [])
   each false b c d e f g = refl
@@ -63,7 +63,7 @@ abbrev pub checks : List ℕ → List Bool
 checks bs = passes1 bs ∷ passes2 bs ∷ passes3 bs ∷ passes4 bs ∷ passes5 bs ∷ passes6 bs ∷ passes7 bs ∷ []
 
 pub refusal-most : (bs : List ℕ) → refusal bs ≤ 7
-unfolding refusal
+unfolding refusalOver
 refusal-most bs = lowest-most 0 (checks bs)
 
 -- A file that is not refused passes each check.
@@ -77,7 +77,7 @@ pub record Accepted (bs : List ℕ) : Type 0 where
   pub code : passes7 bs ≡ true
 
 pub accepted : (bs : List ℕ) → refusal bs ≡ 0 → Accepted bs
-unfolding refusal
+unfolding refusalOver
 accepted bs none =
     let p = lowest-each 0 (checks bs) none in
     record {

@@ -10,11 +10,11 @@ use Rattle.labels.specs.Order.{flows}
 use Rattle.model.specs.Words.{labelIn}
 use Rattle.script_file.specs.Sections.{header, sections, recordBytes, codeBytes, fileLabels, labelAt}
 use Rattle.code_check.specs.Sweep.{codeOk}
-use Rattle.script_file.specs.Checks.{sizeOk, countsOk, offsetsOk, passes1, passes2, passes3, passes4, passes5, passes6, passes7, refusal}
-use Rattle.file_sections.specs.Sections.{readLabels, orNone, labelBytesOf, labelOf, labelsOf, recordBytesOf}
+use Rattle.script_file.specs.Checks.{sizeOk, countsOk, offsetsOk, passes1, passes2, passes3, passes4, passes5, passes6, passes7, refusal, passes4Over, passes5Over}
+use Rattle.file_sections.specs.Sections.{readLabels, orNone, labelBytesOf, recordBytesOf, labelsOver, labelOfOver}
 use Rattle.file_sections.specs.Checks.{recordsOk}
-use Rattle.file_sections.specs.Words.{labelWords, tableOf}
-use Rattle.file_sections.specs.declared.Table.{Table}
+use Rattle.file_sections.specs.Words.{labelWords, labelsFound}
+use Rattle.file_sections.specs.declared.FileLabels.{FileLabels}
 use Rattle.file_sections.proofs.Labels.{words-hold, words-are-labels}
 use Rattle.script_file.specs.declared.Header.{Header}
 use Rattle.script_file.proofs.Answers.{within-limits}
@@ -40,9 +40,9 @@ module _ (bs : List ℕ) where
     unfolding passes3
     finds3 e = ap (λ (g : Header). offsetsOk g (length bs)) (sym is) ∙ e
 
-    pub file-table : (t : Table) → t ≡ tableOf (readLabels (h .labels .count) (take (h .records .offset - 16) (drop 16 bs))) → t ≡ tableOf (fileLabels bs)
-    unfolding labelsOf labelBytesOf
-    file-table t e = e ∙ ap (λ (g : Header). tableOf (readLabels (g .labels .count) (take (g .records .offset - 16) (drop 16 bs)))) is
+    pub file-table : (t : FileLabels) → t ≡ labelsFound (readLabels (h .labels .count) (take (h .records .offset - 16) (drop 16 bs))) → t ≡ labelsFound (fileLabels bs)
+    unfolding labelsOver labelBytesOf
+    file-table t e = e ∙ ap (λ (g : Header). labelsFound (readLabels (g .labels .count) (take (g .records .offset - 16) (drop 16 bs)))) is
 
     pub records-in : h .code .offset ≡ h .records .offset + 6 * h .records .count → recordsIn h bs ≡ recordBytes bs
     unfolding recordBytesOf
@@ -65,16 +65,16 @@ module _ (bs : List ℕ) where
     unfolding passes7
     finds7 r = ap₂ (λ (g : Header) (code : List ℕ). codeOk (g .labels .count) (g .records .count) code) (sym is) (sym code-in) ∙ r
 
-  module _ (t : Table) (is : t ≡ tableOf (fileLabels bs)) where
+  module _ (t : FileLabels) (is : t ≡ labelsFound (fileLabels bs)) where
     pub finds4 : {b : Bool} → t .whole ≡ b → passes4 bs ≡ b
-    unfolding passes4
-    finds4 e = sym (ap (λ (u : Table). u .whole) is) ∙ e
+    unfolding passes4Over
+    finds4 e = sym (ap (λ (u : FileLabels). u .whole) is) ∙ e
 
     label-in : (i : ℕ) → labelIn (labelWords (orNone (fileLabels bs))) i ≡ labelAt bs i → labelAt bs i ≡ labelIn (t .words) i
-    label-in i e = sym e ∙ ap (λ (u : Table). labelIn (u .words) i) (sym is)
+    label-in i e = sym e ∙ ap (λ (u : FileLabels). labelIn (u .words) i) (sym is)
 
     pub finds5 : {b : Bool} → flows (labelIn (t .words) 0) (labelIn (t .words) 1) ≡ b → passes5 bs ≡ b
-    unfolding passes5 labelOf
+    unfolding passes5Over labelOfOver
     finds5 e =
         ap₂ flows
         (label-in 0 (words-hold (orNone (fileLabels bs)) 0 (omega arith)))

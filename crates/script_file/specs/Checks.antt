@@ -4,9 +4,10 @@ use mathlib.Core.List.{List, [], _∷_}
 use Prim.Native.Nat.{ℕ, suc, _+_, _*_}
 use lib.Dec.{leb, eqb}
 use lib.ListN.{length}
+use Rattle.labels.specs.Tables.{principals}
 use Rattle.labels.specs.Order.{flows}
 use Rattle.file_sections.specs.Checks.{every, labelsPass, recordsPass}
-use Rattle.script_file.specs.Sections.{header, sections, codeBytes, labelAt}
+use Rattle.script_file.specs.Sections.{header, sections, codeBytes, labelAtOver}
 use Rattle.code_check.specs.Sweep.{codeOk}
 use Rattle.script_file.specs.declared.Header.{Header}
 
@@ -29,7 +30,8 @@ offsetsOk h n =
     (eqb (h .labels .offset) 16 ∷ leb 16 (h .records .offset)
     ∷ eqb (h .code .offset) (h .records .offset + 6 * h .records .count) ∷ eqb n (h .code .offset + h .code .count) ∷ [])
 
--- what each check finds in a file, whatever the others find: true where it does not apply
+-- what each check finds in a file, whatever the others find: true where it does not apply. 4 and 5 read labels over n
+-- principals.
 unfoldable pub passes1 : List ℕ → Bool
 passes1 bs = sizeOk (length bs)
 
@@ -39,12 +41,12 @@ passes2 bs = countsOk (header bs)
 unfoldable pub passes3 : List ℕ → Bool
 passes3 bs = offsetsOk (header bs) (length bs)
 
-unfoldable pub passes4 : List ℕ → Bool
-passes4 bs = labelsPass (sections bs) bs
+unfoldable pub passes4Over : ℕ → List ℕ → Bool
+passes4Over n bs = labelsPass n (sections bs) bs
 
 -- 5: "Label 0 doesn't flow to label 1."
-unfoldable pub passes5 : List ℕ → Bool
-passes5 bs = flows (labelAt bs 0) (labelAt bs 1)
+unfoldable pub passes5Over : ℕ → List ℕ → Bool
+passes5Over n bs = flows (labelAtOver n bs 0) (labelAtOver n bs 1)
 
 unfoldable pub passes6 : List ℕ → Bool
 passes6 bs = recordsPass (sections bs) bs
@@ -58,5 +60,16 @@ lowest n [] = 0
 lowest n (true ∷ ts) = lowest (suc n) ts
 lowest n (false ∷ ts) = n
 
-unfoldable pub refusal : List ℕ → ℕ
-refusal bs = lowest 1 (passes1 bs ∷ passes2 bs ∷ passes3 bs ∷ passes4 bs ∷ passes5 bs ∷ passes6 bs ∷ passes7 bs ∷ [])
+unfoldable pub refusalOver : ℕ → List ℕ → ℕ
+refusalOver n bs =
+    lowest 1 (passes1 bs ∷ passes2 bs ∷ passes3 bs ∷ passes4Over n bs ∷ passes5Over n bs ∷ passes6 bs ∷ passes7 bs ∷ [])
+
+-- over the principals that there are
+abbrev pub passes4 : List ℕ → Bool
+passes4 = passes4Over principals
+
+abbrev pub passes5 : List ℕ → Bool
+passes5 = passes5Over principals
+
+abbrev pub refusal : List ℕ → ℕ
+refusal = refusalOver principals

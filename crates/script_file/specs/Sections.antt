@@ -3,9 +3,10 @@ use mathlib.Core.List.{List}
 use mathlib.Core.Option.{Option}
 use Prim.Native.Nat.{ℕ}
 use lib.ListN.{drop}
+use Rattle.labels.specs.Tables.{principals}
 use Rattle.labels.specs.declared.Label.{Label}
 use Rattle.model.specs.Decoding.{u16}
-use Rattle.file_sections.specs.Sections.{Sections, section, labelBytesOf, recordBytesOf, labelsOf, labelOf}
+use Rattle.file_sections.specs.Sections.{Sections, section, labelBytesOf, recordBytesOf, labelsOf, labelOfOver}
 use Rattle.script_file.specs.declared.Header.{Header}
 
 unfoldable pub header : List ℕ → Header
@@ -28,6 +29,10 @@ codeBytes bs = drop (header bs .code .offset) bs
 abbrev pub fileLabels : List ℕ → Option (List Label)
 fileLabels bs = labelsOf (sections bs) bs
 
--- label i of a file; past its labels, and of a file whose labels are malformed, ⟨False, False⟩
+-- label i of a file, over n principals and over those that there are; past its labels, and of a file whose labels are
+-- malformed, ⟨False, False⟩
+abbrev pub labelAtOver : ℕ → List ℕ → ℕ → Label
+labelAtOver n bs i = labelOfOver n (sections bs) bs i
+
 abbrev pub labelAt : List ℕ → ℕ → Label
-labelAt bs i = labelOf (sections bs) bs i
+labelAt = labelAtOver principals

@@ -1,13 +1,13 @@
 // A script file: its header, and the checks that stop it.
 ghost use mathlib.Core.Path.{_≡_};
+ghost use lib.ListN.{length};
 ghost use Rattle.labels.specs.Order.{flows};
 ghost use Rattle.script_file.specs.Sections.{header};
 ghost use Rattle.script_file.specs.Checks.{sizeOk, countsOk, offsetsOk};
 ghost use Rattle.script_file.specs.Loading.{refusalNumber, loaded, wordsAfter};
-ghost use Rattle.model.specs.Words.{labelIn};
+ghost use Rattle.model.specs.Words.{labelIn, fileWords};
 ghost use Rattle.script_file.specs.Parts.{Shorts};
 use file_sections::Section;
-use labels::Label;
 
 // The eight numbers of the header.
 pub struct Header {
@@ -128,26 +128,19 @@ fn offsets_ok(h: Header, n: usize) -> bool
 // ---- the starting label
 
 // Check 5: label 0 flows to label 1.
-fn start_ok(words: [u64; 64]) -> bool
-    ensures { λ r. ⌜ r ≡ flows (labelIn words 0) (labelIn words 1) ⌝ }
+fn start_ok(words: &[u64]) -> bool
+    requires { ⌜ length (now words) ≡ fileWords ⌝ }
+    ensures { λ r. ⌜ r ≡ flows (labelIn (now (words .entry)) 0) (labelIn (now (words .entry)) 1) ⌝ }
 {
-    let label = Label {
-        secrecy: words[0],
-        integrity: words[1],
-    };
-    let clearance = Label {
-        secrecy: words[2],
-        integrity: words[3],
-    };
-    labels::flows(label, clearance)
+    labels::flows(labels::label_from(words, 0), labels::label_from(words, 8))
 }
 
 // ---- the file
 
 // Loads a file of any length. The answer is the refusal of the first check that stops it, or its header; the code and the
 // input records stay in the file, where the header says. The labels of a file that loads are put into `labels`, label i at
-// words 2 i and 2 i + 1, and 0 behind them; a refusal leaves `labels` as it was.
-pub fn load(file: &[u8], labels: &mut [u64; 64]) -> Loaded
+// the eight words from 8 i on, and 0 behind them; a refusal leaves `labels` as it was.
+pub fn load(file: &[u8], labels: &mut [u64; 256]) -> Loaded
     ensures { λ r. ⌜ (r ≡ loaded (now (file .entry))) × (now (labels .exit) ≡ wordsAfter (now (file .entry)) (now (labels .entry))) ⌝ }
 {
     if !size_ok(file.len()) {
@@ -170,7 +163,7 @@ pub fn load(file: &[u8], labels: &mut [u64; 64]) -> Loaded
         return Loaded::Refused(Refusal::Labels);
     }
     let words = table.words;
-    if !start_ok(words) {
+    if !start_ok(&words) {
         return Loaded::Refused(Refusal::Start);
     }
     if !file_sections::records_ok(&file[records_at..code_at], records.count, listed.count) {

@@ -6,7 +6,10 @@ use native.Mathlib.Omega.{arith}
 use native.Mathlib.Nat.{add-zero}
 use lib.ListN.{length, getD, set, take, drop, length-map, List·getD-map, List·getD-eq-default}
 use lib.Seq.{sets, set-out, set-getD, getD-take, getD-drop}
+use Rattle.labels.specs.Words.{tableFrom, labelFrom, withTable, withLabel}
+use Rattle.labels.specs.declared.Table.{Table}
 use Rattle.labels.specs.declared.Label.{Label}
+use Rattle.labels.proofs.Words.{tableList, labelList, table-sets, label-sets, table-same, label-same, tables-alike, labels-alike}
 use Rattle.model.specs.State.{Store, at}
 use Rattle.model.specs.declared.Kind.{Kind}
 use Rattle.model.specs.declared.Kind.the-variants.{Sealed, Reference}
@@ -22,51 +25,113 @@ pub length-slots : (l : List ℕ) → length (slots l) ≡ places
 unfolding slots
 length-slots l = length-map (parts width places l) slotWords ∙ length-parts width places l
 
+-- ── a place's words, read ──
+
+module _ (l : List ℕ) (b : ℕ) where
+  -- word j of a place that starts at b
+  word : (j : ℕ) → j < width → getD (take width (drop b l)) j 0 ≡ getD l (b + j) 0
+  word j h = getD-take width (drop b l) j 0 h ∙ getD-drop b l j 0
+
+  table-part : (j : ℕ) → j + 3 < width → tableFrom (take width (drop b l)) j ≡ tableFrom l (b + j)
+  table-part j h =
+      tables-alike (take width (drop b l)) l j (b + j)
+      (λ i q. word (j + i) (omega arith) ∙ ap (λ (k : ℕ). getD l k 0) (let e : b + (j + i) ≡ b + j + i = omega arith in e))
+
+  label-part : labelFrom (take width (drop b l)) 1 ≡ labelFrom l (b + 1)
+  label-part =
+      labels-alike (take width (drop b l)) l 1 (b + 1)
+      (λ i q. word (1 + i) (omega arith) ∙ ap (λ (k : ℕ). getD l k 0) (let e : b + (1 + i) ≡ b + 1 + i = omega arith in e))
+
+  kind-part : getD (take width (drop b l)) 0 0 ≡ getD l b 0
+  kind-part = word 0 (omega arith) ∙ ap (λ (i : ℕ). getD l i 0) (add-zero b)
+
+  slot-part : slotWords (take width (drop b l))
+      ≡ slotOf (getD l b 0) (labelFrom l (b + 1)) (getD l (b + 9) 0) (tableFrom l (b + 10)) (tableFrom l (b + 14))
+  slot-part =
+      λ k. slotOf (kind-part k) (label-part k) (word 9 (omega arith) k) (table-part 10 (omega arith) k) (table-part 14 (omega arith) k)
+
 pub slot-at : (l : List ℕ) (p : ℕ) → p < places
-    → at (slots l) p ≡ slotOf (getD l (6 * p) 0) (getD l (6 * p + 1) 0) (getD l (6 * p + 2) 0) (getD l (6 * p + 3) 0) (getD l (6 * p + 4) 0) (getD l (6 * p + 5) 0)
+    → at (slots l) p ≡ slotOf (getD l (18 * p) 0) (labelFrom l (18 * p + 1)) (getD l (18 * p + 9) 0) (tableFrom l (18 * p + 10)) (tableFrom l (18 * p + 14))
 unfolding slots
 slot-at l p h =
-    List·getD-map slotWords (parts width places l) p [] ∙ ap slotWords (part-at width places l p h)
-    ∙ rw (word 0 (omega arith), add-zero, word 1 (omega arith), word 2 (omega arith), word 3 (omega arith), word 4 (omega arith), word 5 (omega arith))
-  where
-    word : (j : ℕ) → j < width → getD (take 6 (drop (6 * p) l)) j 0 ≡ getD l (6 * p + j) 0
-    word j k = getD-take 6 (drop (6 * p) l) j 0 k ∙ getD-drop (6 * p) l j 0
+    List·getD-map slotWords (parts width places l) p [] ∙ ap slotWords (part-at width places l p h) ∙ slot-part l (18 * p)
+
+-- the parts as they were read
+pub slot-read : (ws : List ℕ) (p : ℕ) → p < places → (k : ℕ) (l : Label) (t : ℕ) (x y : Table)
+    → k ≡ getD ws (18 * p) 0 → l ≡ labelFrom ws (18 * p + 1) → t ≡ getD ws (18 * p + 9) 0 → x ≡ tableFrom ws (18 * p + 10) → y ≡ tableFrom ws (18 * p + 14)
+    → slotOf k l t x y ≡ at (slots ws) p
+slot-read ws p h k l t x y ek el et ex ey = (λ i. slotOf (ek i) (el i) (et i) (ex i) (ey i)) ∙ sym (slot-at ws p h)
 
 pub slot-out : (l : List ℕ) (p : ℕ) → places ≤ p → at (slots l) p ≡ Empty
 slot-out l p h = List·getD-eq-default (slots l) Empty (let e = length-slots l in omega arith)
 
-slot-set : (l : List ℕ) (p k s i t x y : ℕ) → p < places → words ≤ length l
-    → slots (sets l (6 * p) (k ∷ s ∷ i ∷ t ∷ x ∷ y ∷ [])) ≡ set (slots l) p (slotOf k s i t x y)
+-- ── a place's words, written ──
+
+abbrev placeList : ℕ → Label → ℕ → Table → Table → List ℕ
+placeList k l t x y = k ∷ labelList l (t ∷ tableList x (tableList y []))
+
+slot-set : (ws : List ℕ) (p k : ℕ) (l : Label) (t : ℕ) (x y : Table) → p < places → words ≤ length ws
+    → slots (sets ws (18 * p) (placeList k l t x y)) ≡ set (slots ws) p (slotOf k l t x y)
 unfolding slots
-slot-set l p k s i t x y h e =
-    ap (map slotWords) (parts-sets width places l p (k ∷ s ∷ i ∷ t ∷ x ∷ y ∷ []) h refl e)
-    ∙ map-set slotWords (parts width places l) p (k ∷ s ∷ i ∷ t ∷ x ∷ y ∷ [])
+slot-set ws p k l t x y h e =
+    ap (map slotWords) (parts-sets width places ws p (placeList k l t x y) h refl e)
+    ∙ map-set slotWords (parts width places ws) p (placeList k l t x y)
 
--- six words stored one by one
-pub slot-put : (l : List ℕ) (p k s i t x y : ℕ) → p < places → length l ≡ words
-    → slots (set (set (set (set (set (set l (6 * p) k) (6 * p + 1) s) (6 * p + 2) i) (6 * p + 3) t) (6 * p + 4) x) (6 * p + 5) y) ≡ set (slots l) p (slotOf k s i t x y)
-slot-put l p k s i t x y h e =
-    let e1 : 6 * p + 1 ≡ suc (6 * p) = omega arith in
-    let e2 : 6 * p + 2 ≡ suc (suc (6 * p)) = omega arith in
-    let e3 : 6 * p + 3 ≡ suc (suc (suc (6 * p))) = omega arith in
-    let e4 : 6 * p + 4 ≡ suc (suc (suc (suc (6 * p)))) = omega arith in
-    let e5 : 6 * p + 5 ≡ suc (suc (suc (suc (suc (6 * p))))) = omega arith in
-    rw (e1, e2, e3, e4, e5) (slot-set l p k s i t x y h (omega arith))
+one-set : (v : ℕ) (ws : List ℕ) (b : ℕ) (us : List ℕ) → sets (set ws b v) (b + 1) us ≡ sets ws b (v ∷ us)
+one-set v ws b us = ap (λ (i : ℕ). sets (set ws b v) i us) (let e : b + 1 ≡ suc b = omega arith in e)
 
--- the kind's word alone empties a place
-pub slot-clear : (l : List ℕ) (p : ℕ) → p < places → length l ≡ words → slots (set l (6 * p) 0) ≡ set (slots l) p Empty
-slot-clear l p h e =
-    let m : List ℕ = set l (6 * p) 0 in
-    let same : (i : ℕ) → set m i (getD m i 0) ≡ m = λ i. set-getD m i 0 in
-    rw (same (6 * p + 1), same (6 * p + 2), same (6 * p + 3), same (6 * p + 4), same (6 * p + 5)) at
-    (slot-put l p 0 (getD m (6 * p + 1) 0) (getD m (6 * p + 2) 0) (getD m (6 * p + 3) 0) (getD m (6 * p + 4) 0) (getD m (6 * p + 5) 0) h e)
+-- the words of a place as the code writes them: kind, label, tag, two tables
+abbrev pub withPlace : ℕ → Label → ℕ → Table → Table → List ℕ → ℕ → List ℕ
+withPlace k l t x y ws b =
+    withTable y (withTable x (set (withLabel l (set ws b k) (b + 1)) (b + 9) t) (b + 10)) (b + 14)
+
+place-sets : (k : ℕ) (l : Label) (t : ℕ) (x y : Table) (ws : List ℕ) (b : ℕ) → withPlace k l t x y ws b ≡ sets ws b (placeList k l t x y)
+place-sets k l t x y ws b =
+    table-sets y (withTable x (set (withLabel l (set ws b k) (b + 1)) (b + 9) t) (b + 10)) (b + 14) []
+    ∙ ap (λ (i : ℕ). sets (withTable x (set (withLabel l (set ws b k) (b + 1)) (b + 9) t) (b + 10)) i (tableList y [])) (let e : b + 14 ≡ b + 10 + 4 = omega arith in e)
+    ∙ table-sets x (set (withLabel l (set ws b k) (b + 1)) (b + 9) t) (b + 10) (tableList y [])
+    ∙ ap (λ (i : ℕ). sets (set (withLabel l (set ws b k) (b + 1)) (b + 9) t) i (tableList x (tableList y []))) (let e : b + 10 ≡ b + 9 + 1 = omega arith in e)
+    ∙ one-set t (withLabel l (set ws b k) (b + 1)) (b + 9) (tableList x (tableList y []))
+    ∙ ap (λ (i : ℕ). sets (withLabel l (set ws b k) (b + 1)) i (t ∷ tableList x (tableList y []))) (let e : b + 9 ≡ b + 1 + 8 = omega arith in e)
+    ∙ label-sets l (set ws b k) (b + 1) (t ∷ tableList x (tableList y []))
+    ∙ one-set k ws b (labelList l (t ∷ tableList x (tableList y [])))
+
+pub slot-put : (ws : List ℕ) (p k : ℕ) (l : Label) (t : ℕ) (x y : Table) → p < places → length ws ≡ words
+    → slots (withPlace k l t x y ws (18 * p)) ≡ set (slots ws) p (slotOf k l t x y)
+slot-put ws p k l t x y h e = ap slots (place-sets k l t x y ws (18 * p)) ∙ slot-set ws p k l t x y h (omega arith)
+
+-- ── the kind's word alone empties a place ──
+
+pub slot-clear : (ws : List ℕ) (p : ℕ) → p < places → length ws ≡ words → slots (set ws (18 * p) 0) ≡ set (slots ws) p Empty
+slot-clear ws p h e =
+    sym (ap slots (
+    ap (λ (us : List ℕ). withTable y (withTable x (set us (b + 9) t) (b + 10)) (b + 14)) (label-same m (b + 1))
+    ∙ ap (λ (us : List ℕ). withTable y (withTable x us (b + 10)) (b + 14)) (set-getD m (b + 9) 0)
+    ∙ ap (λ (us : List ℕ). withTable y us (b + 14)) (table-same m (b + 10))
+    ∙ table-same m (b + 14)))
+    ∙ slot-put ws p 0 (labelFrom m (b + 1)) t x y h e
+  where
+    b : ℕ
+    b = 18 * p
+
+    m : List ℕ
+    m = set ws b 0
+
+    t : ℕ
+    t = getD m (b + 9) 0
+
+    x : Table
+    x = tableFrom m (b + 10)
+
+    y : Table
+    y = tableFrom m (b + 14)
 
 pub slot-keep : (l : List ℕ) (p : ℕ) (x : Slot) → places ≤ p → slots l ≡ set (slots l) p x
 slot-keep l p x h = sym (set-out (slots l) p x (let e = length-slots l in omega arith))
 
 -- a record's words are read back
-pub slot-back : (k : Kind) (l : Label) (c : Contents) (t x y : ℕ) → contentsIn t x y ≡ c
-    → slotOf (kindWord k) (l .secrecy) (l .integrity) t x y ≡ Full (record { kind = k; label = l; contents = c })
+pub slot-back : (k : Kind) (l : Label) (c : Contents) (t : ℕ) (x y : Table) → contentsIn t x y ≡ c
+    → slotOf (kindWord k) l t x y ≡ Full (record { kind = k; label = l; contents = c })
 slot-back Sealed l c t x y e = ap (λ (d : Contents). Full (record { kind = Sealed; label = l; contents = d })) e
 slot-back Reference l c t x y e = ap (λ (d : Contents). Full (record { kind = Reference; label = l; contents = d })) e
 

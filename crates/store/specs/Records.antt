@@ -1,4 +1,5 @@
 -- What the record at a place is asked for, and the record with another value.
+use Rattle.labels.specs.Order.{noLabel}
 use Rattle.labels.specs.declared.Label.{Label}
 use Rattle.model.specs.declared.Datum.{Datum}
 use Rattle.model.specs.declared.Datum.the-variants.{Number}
@@ -7,9 +8,9 @@ use Rattle.model.specs.declared.Contents.the-variants.{Value, Fault}
 use Rattle.model.specs.declared.Slot.{Slot}
 use Rattle.model.specs.declared.Slot.the-variants.{Empty, Full}
 
--- the label of the record; ⟨0, 0⟩ where there is none
+-- the label of the record; ⟨False, False⟩ where there is none
 abbrev pub recordLabel : Slot → Label
-recordLabel Empty = record { secrecy = 0; integrity = 0 }
+recordLabel Empty = noLabel
 recordLabel (Full r) = r .label
 
 -- the value of contents; the number 0 for a fault

@@ -1,9 +1,12 @@
--- The records that a list of words holds: six words to a place, 256 places.
+-- The records that a list of words holds: eighteen words to a place, 256 places.
 use mathlib.Core.Bool.{cond}
 use mathlib.Core.List.{List, [], _∷_, map}
 use Prim.Native.Nat.{ℕ, zero, suc, _%_}
 use lib.Dec.{eqb}
 use lib.ListN.{getD, take, drop}
+use Rattle.labels.specs.Words.{tableFrom, labelFrom}
+use Rattle.labels.specs.declared.Table.{Table}
+use Rattle.labels.specs.declared.Label.{Label}
 use Rattle.model.specs.State.{Store}
 use Rattle.model.specs.declared.Kind.{Kind}
 use Rattle.model.specs.declared.Kind.the-variants.{Sealed, Reference}
@@ -17,10 +20,10 @@ abbrev pub places : ℕ
 places = 256
 
 abbrev pub width : ℕ
-width = 6
+width = 18
 
 abbrev pub words : ℕ
-words = 1536
+words = 4608
 
 -- ── a place's words: kind (0 where it is empty), label, contents ──
 
@@ -31,21 +34,22 @@ abbrev pub kindWord : Kind → ℕ
 kindWord Sealed = 1
 kindWord Reference = 2
 
-abbrev pub contentsIn : ℕ → ℕ → ℕ → Contents
+-- a number, a place, a code is in the lowest word of its table
+abbrev pub contentsIn : ℕ → Table → Table → Contents
 contentsIn t x y =
-    cond (eqb t 1) (Value (Number (low x)))
+    cond (eqb t 1) (Value (Number (low (x .word0))))
     (cond (eqb t 2) (Value (Labelled (record { secrecy = x; integrity = y })))
-    (cond (eqb t 3) (Value (Handle Sealed x))
-    (cond (eqb t 4) (Value (Handle Reference x))
-    (Fault (low x) (low y)))))
+    (cond (eqb t 3) (Value (Handle Sealed (x .word0)))
+    (cond (eqb t 4) (Value (Handle Reference (x .word0)))
+    (Fault (low (x .word0)) (low (y .word0))))))
 
-abbrev pub slotOf : ℕ → ℕ → ℕ → ℕ → ℕ → ℕ → Slot
-slotOf k s i t x y =
+abbrev pub slotOf : ℕ → Label → ℕ → Table → Table → Slot
+slotOf k l t x y =
     cond (eqb k 0) Empty
-    (Full (record { kind = cond (eqb k 1) Sealed Reference; label = record { secrecy = s; integrity = i }; contents = contentsIn t x y }))
+    (Full (record { kind = cond (eqb k 1) Sealed Reference; label = l; contents = contentsIn t x y }))
 
 abbrev pub slotWords : List ℕ → Slot
-slotWords ws = slotOf (getD ws 0 0) (getD ws 1 0) (getD ws 2 0) (getD ws 3 0) (getD ws 4 0) (getD ws 5 0)
+slotWords ws = slotOf (getD ws 0 0) (labelFrom ws 1) (getD ws 9 0) (tableFrom ws 10) (tableFrom ws 14)
 
 -- a list cut into n parts of w elements
 module _ {A : Type 0} where

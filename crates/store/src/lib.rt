@@ -1,5 +1,6 @@
-// The records of a run, in words that the caller lends: six words to a place, 256 places.
+// The records of a run, in words that the caller lends: eighteen words to a place, 256 places.
 use labels::Label;
+use labels::Table;
 use model::Contents;
 use model::Datum;
 use model::Kind;
@@ -11,18 +12,28 @@ ghost use Rattle.model.specs.State.{at};
 ghost use Rattle.store.specs.Slots.{words, kindWord, contentsIn, slotOf, slots};
 ghost use Rattle.store.specs.Records.{recordLabel, recordValue, rewritten};
 
-// How many places there are, how many words each has: kind, label (two), and contents (three); and a store's words.
+// How many places there are, how many words each has: kind, label (eight), and contents (what they are, and two tables); and a
+// store's words.
 pub const PLACES: usize = 256;
 
-const WIDTH: usize = 6;
+const WIDTH: usize = 18;
 
 pub const STORE: usize = WIDTH * PLACES;
 
-// The words of a record's contents: what they are, and two words of it.
+// Where a place's parts lie.
+const LABEL: usize = 1;
+
+const TAG: usize = 9;
+
+const FIRST: usize = 10;
+
+const SECOND: usize = 14;
+
+// The words of a record's contents: what they are, and two tables of it. A number or a place is in a table's lowest word.
 struct Words {
     tag: u64,
-    first: u64,
-    second: u64,
+    first: Table,
+    second: Table,
 }
 
 // ---- reading
@@ -36,26 +47,22 @@ pub fn load(store: &[u64], p: usize) -> Slot
         let b = WIDTH * p;
         return slot_of(
             store[b],
-            store[b + 1],
-            store[b + 2],
-            store[b + 3],
-            store[b + 4],
-            store[b + 5],
+            labels::label_from(store, b + LABEL),
+            store[b + TAG],
+            labels::table_from(store, b + FIRST),
+            labels::table_from(store, b + SECOND),
         );
     }
     Slot::Empty
 }
 
-// The label of the record at a place; ⟨0, 0⟩ where there is none.
+// The label of the record at a place; ⟨False, False⟩ where there is none.
 pub fn label_of(store: &[u64], p: usize) -> Label
     requires { ⌜ length (now store) ≡ words ⌝ }
     ensures { λ r. ⌜ r ≡ recordLabel (at (slots (now (store .entry))) p) ⌝ }
 {
     match load(store, p) {
-        Slot::Empty => Label {
-            secrecy: 0,
-            integrity: 0,
-        },
+        Slot::Empty => labels::no_label(),
         Slot::Full(r) => r.label,
     }
 }
@@ -104,8 +111,8 @@ pub fn rewrite(store: &mut [u64], p: usize, d: Datum)
     }
 }
 
-fn slot_of(kind: u64, secrecy: u64, integrity: u64, tag: u64, first: u64, second: u64) -> Slot
-    ensures { λ r. ⌜ r ≡ slotOf kind secrecy integrity tag first second ⌝ }
+fn slot_of(kind: u64, label: Label, tag: u64, first: Table, second: Table) -> Slot
+    ensures { λ r. ⌜ r ≡ slotOf kind label tag first second ⌝ }
 {
     if kind == 0 {
         return Slot::Empty;
@@ -114,29 +121,29 @@ fn slot_of(kind: u64, secrecy: u64, integrity: u64, tag: u64, first: u64, second
     if kind == 1 {
         return Slot::Full(Record {
             kind: Kind::Sealed,
-            label: Label { secrecy, integrity },
+            label,
             contents,
         });
     }
     Slot::Full(Record {
         kind: Kind::Reference,
-        label: Label { secrecy, integrity },
+        label,
         contents,
     })
 }
 
-fn contents_of(tag: u64, first: u64, second: u64) -> Contents
+fn contents_of(tag: u64, first: Table, second: Table) -> Contents
     ensures { λ r. ⌜ r ≡ contentsIn tag first second ⌝ }
 {
     match tag {
-        1 => Contents::Value(Datum::Number(low(first))),
+        1 => Contents::Value(Datum::Number(low(first.word0))),
         2 => Contents::Value(Datum::Label(Label {
             secrecy: first,
             integrity: second,
         })),
-        3 => Contents::Value(Datum::Handle(Kind::Sealed, first as usize)),
-        4 => Contents::Value(Datum::Handle(Kind::Reference, first as usize)),
-        _ => Contents::Fault(low(first), low(second)),
+        3 => Contents::Value(Datum::Handle(Kind::Sealed, first.word0 as usize)),
+        4 => Contents::Value(Datum::Handle(Kind::Reference, first.word0 as usize)),
+        _ => Contents::Fault(low(first.word0), low(second.word0)),
     }
 }
 
@@ -160,11 +167,10 @@ pub fn save(store: &mut [u64], p: usize, r: Record)
         let contents = r.contents;
         let w = contents_words(contents);
         store[b] = kind_word(kind);
-        store[b + 1] = label.secrecy;
-        store[b + 2] = label.integrity;
-        store[b + 3] = w.tag;
-        store[b + 4] = w.first;
-        store[b + 5] = w.second;
+        labels::put_label(label, store, b + LABEL);
+        store[b + TAG] = w.tag;
+        labels::put_table(w.first, store, b + FIRST);
+        labels::put_table(w.second, store, b + SECOND);
     }
 }
 
@@ -194,8 +200,8 @@ fn contents_words(contents: Contents) -> Words
         Contents::Value(d) => datum_words(d),
         Contents::Fault(code, number) => Words {
             tag: 5,
-            first: code as u64,
-            second: number as u64,
+            first: labels::low_table(code as u64),
+            second: labels::low_table(number as u64),
         },
     }
 }
@@ -206,14 +212,18 @@ fn datum_words(d: Datum) -> Words
     match d {
         Datum::Number(n) => Words {
             tag: 1,
-            first: n as u64,
-            second: 0,
+            first: labels::low_table(n as u64),
+            second: labels::low_table(0),
         },
-        Datum::Label(l) => Words {
-            tag: 2,
-            first: l.secrecy,
-            second: l.integrity,
-        },
+        Datum::Label(l) => {
+            let first = l.secrecy;
+            let second = l.integrity;
+            Words {
+                tag: 2,
+                first,
+                second,
+            }
+        }
         Datum::Handle(kind, p) => handle_words(kind, p),
     }
 }
@@ -224,13 +234,13 @@ fn handle_words(kind: Kind, p: usize) -> Words
     match kind {
         Kind::Sealed => Words {
             tag: 3,
-            first: p as u64,
-            second: 0,
+            first: labels::low_table(p as u64),
+            second: labels::low_table(0),
         },
         Kind::Reference => Words {
             tag: 4,
-            first: p as u64,
-            second: 0,
+            first: labels::low_table(p as u64),
+            second: labels::low_table(0),
         },
     }
 }

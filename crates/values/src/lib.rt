@@ -1,5 +1,6 @@
 // Values as the machine reads, makes and copies them; and what it works out of small numbers and accounts.
 use labels::Label;
+use labels::Table;
 use model::Account;
 use model::Datum;
 use model::Kind;
@@ -60,10 +61,7 @@ pub fn same(d: Datum) -> Datum
 {
     match d {
         Datum::Number(n) => Datum::Number(n),
-        Datum::Label(l) => Datum::Label(Label {
-            secrecy: l.secrecy,
-            integrity: l.integrity,
-        }),
+        Datum::Label(l) => Datum::Label(same_label(l)),
         Datum::Handle(kind, p) => match kind {
             Kind::Sealed => Datum::Handle(Kind::Sealed, p),
             Kind::Reference => Datum::Handle(Kind::Reference, p),
@@ -75,8 +73,19 @@ pub fn same_label(l: Label) -> Label
     ensures { λ r. ⌜ r ≡ l ⌝ }
 {
     Label {
-        secrecy: l.secrecy,
-        integrity: l.integrity,
+        secrecy: same_table(l.secrecy),
+        integrity: same_table(l.integrity),
+    }
+}
+
+fn same_table(t: Table) -> Table
+    ensures { λ r. ⌜ r ≡ t ⌝ }
+{
+    Table {
+        word0: t.word0,
+        word1: t.word1,
+        word2: t.word2,
+        word3: t.word3,
     }
 }
 

@@ -4,6 +4,7 @@ use mathlib.Core.Bool.{Bool, true, false}
 use mathlib.Core.List.{List, _++_}
 use Prim.Native.Nat.{ℕ, _-_}
 use lib.ListN.{replicate}
+use Rattle.labels.specs.Tables.{principals}
 use Rattle.labels.specs.Order.{flows}
 use Rattle.labels.specs.declared.Label.{Label}
 use Rattle.view_fields.specs.Fields.{labelField, endingNumber, resultField}
@@ -23,10 +24,10 @@ module _ (reader : Label) (f : Finished) (out : List ℕ) {b : Bool} (e : b ≡ 
   pub counts-blank : (s : ℕ) → b ≡ false → over (replicate 6 0) out ≡ over (counts (observes reader) s (f .ending) (closing f)) out
   counts-blank s t = ap (λ (v : List ℕ). over v out) (sym (counts-hidden (observes reader) (f .ending) (closing f) s (sym e ∙ t)))
 
-  pub final-written : b ≡ true → (r : Triple) → tripleField r ≡ resultField (f .ending)
-      → over (tripleField r ++ (labelField (f .label) ++ labelField (f .clearance))) out ≡ over (final (observes reader) (f .ending) (closing f)) out
+  pub final-written : b ≡ true → (r : Triple) → tripleField r ≡ resultField principals (f .ending)
+      → over (tripleField r ++ (labelField principals (f .label) ++ labelField principals (f .clearance))) out ≡ over (final principals (observes reader) (f .ending) (closing f)) out
   final-written t r p =
-      ap (λ (v : List ℕ). over v out) (ap (λ (v : List ℕ). v ++ (labelField (f .label) ++ labelField (f .clearance))) p ∙ sym (final-shown (observes reader) (f .ending) (closing f) (sym e ∙ t)))
+      ap (λ (v : List ℕ). over v out) (ap (λ (v : List ℕ). v ++ (labelField principals (f .label) ++ labelField principals (f .clearance))) p ∙ sym (final-shown (observes reader) (f .ending) (closing f) (sym e ∙ t)))
 
-  pub final-blank : b ≡ false → over (replicate 50 0) out ≡ over (final (observes reader) (f .ending) (closing f)) out
+  pub final-blank : b ≡ false → over (replicate 194 0) out ≡ over (final principals (observes reader) (f .ending) (closing f)) out
   final-blank t = ap (λ (v : List ℕ). over v out) (sym (final-hidden (observes reader) (f .ending) (closing f) (sym e ∙ t)))

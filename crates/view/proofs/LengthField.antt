@@ -1,4 +1,4 @@
--- "A view is as many bytes as its length field says": 62 and 36 for each record shown.
+-- "A view is as many bytes as its length field says": 206 and 132 for each record shown.
 use mathlib.Core.Bool.{Bool}
 use mathlib.Core.List.{List, [], _∷_, _++_, append-assoc}
 use mathlib.Core.Path.{_≡_, refl, sym, ap, ap₂, _∙_}
@@ -6,6 +6,7 @@ use Prim.Native.Nat.{ℕ, _+_, _*_, _/_, _%_, _≤_, _<_}
 use native.Mathlib.Omega.{arith}
 use lib.ListN.{length}
 use lib.Seq.{getD-append-add}
+use Rattle.labels.specs.Tables.{principals}
 use Rattle.labels.specs.declared.Label.{Label}
 use Rattle.model.specs.State.{Store, Outcome, shown}
 use Rattle.model.specs.declared.Account.{Account}
@@ -14,7 +15,7 @@ use Rattle.model.specs.declared.Ending.{Ending}
 use Rattle.store.specs.Slots.{places, slots}
 use Rattle.store.proofs.Places.{length-slots}
 use Rattle.view_fields.specs.Fields.{recordWidth, littleEndian}
-use Rattle.view.specs.Layout.{recordFields, recordsShown, recordsAt, counts, final, viewLength, view}
+use Rattle.view.specs.Layout.{recordFields, recordsShown, recordsAt, counts, final, viewLength, view, lengthOver, viewOver}
 use Rattle.view.proofs.Widths.{one-small, length-counts, length-view}
 
 -- behind the first three numbers
@@ -25,15 +26,15 @@ behind Reads s e a bs i =
 small : (n : ℕ) → n < 65536 → n % 256 + 256 * (n / 256 % 256) ≡ n
 small n lt = omega arith
 
--- what stands there: records shown, 62, length, and the rest
+-- what stands there: records shown, 206, length, and the rest
 abbrev tail : (Label → Bool) → Outcome → List ℕ
 tail Reads o =
     littleEndian 2 (recordsShown Reads (o .store))
     ++ (littleEndian 2 recordsAt
-    ++ (littleEndian 2 (viewLength Reads (o .store)) ++ (final Reads (o .ending) (o .account) ++ recordFields Reads 0 (o .store))))
+    ++ (littleEndian 2 (viewLength Reads (o .store)) ++ (final principals Reads (o .ending) (o .account) ++ recordFields principals Reads 0 (o .store))))
 
 view-tail : (Reads : Label → Bool) (s : ℕ) (o : Outcome) → view Reads s o ≡ counts Reads s (o .ending) (o .account) ++ tail Reads o
-unfolding view
+unfolding viewOver
 view-tail Reads s o = simp append-assoc refl
 
 -- The sixth number of a view is its length.
@@ -62,10 +63,10 @@ shown-most Reads (x ∷ σ) = omega (arith, one-small (shown Reads x), shown-mos
 
 pub length-field-places : (Reads : Label → Bool) (s : ℕ) (o : Outcome) → length (o .store) ≤ 256
     → u16 (view Reads s o) 10 ≡ length (view Reads s o)
-unfolding viewLength
+unfolding lengthOver
 length-field-places Reads s o le = length-field Reads s o (omega (arith, shown-most Reads (o .store)))
 
 -- the longest view of a store of words, which has 256 places
-pub view-most : (Reads : Label → Bool) (l : List ℕ) → viewLength Reads (slots l) ≤ recordsAt + recordWidth * places
-unfolding viewLength
+pub view-most : (Reads : Label → Bool) (l : List ℕ) → viewLength Reads (slots l) ≤ recordsAt + recordWidth principals * places
+unfolding lengthOver
 view-most Reads l = let e = length-slots l in omega (arith, shown-most Reads (slots l))

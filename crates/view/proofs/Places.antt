@@ -6,6 +6,7 @@ use Prim.Native.Nat.{ℕ, _+_, _*_, _≤_, _<_}
 use native.Mathlib.Numerals.{add-one}
 use native.Mathlib.Omega.{arith}
 use lib.ListN.{length, drop, drop-of-length-le}
+use Rattle.labels.specs.Tables.{principals}
 use Rattle.labels.specs.declared.Label.{Label}
 use Rattle.model.specs.State.{at, shown}
 use Rattle.model.specs.declared.Record.{Record}
@@ -36,30 +37,30 @@ module _ (Reads : Label → Bool) (l : List ℕ) where
   count-nothing p h = ap (recordsShown Reads) (nothing p h)
 
   fields-here : (p : ℕ) → p < places
-      → recordFields Reads p (drop p (slots l)) ≡ slotField p (shown Reads (at (slots l) p)) ++ recordFields Reads (p + 1) (drop (p + 1) (slots l))
+      → recordFields principals Reads p (drop p (slots l)) ≡ slotField principals p (shown Reads (at (slots l) p)) ++ recordFields principals Reads (p + 1) (drop (p + 1) (slots l))
   unfolding recordFields
   fields-here p h =
-      ap (recordFields Reads p) (here p h)
-      ∙ ap (λ (k : ℕ). slotField p (shown Reads (at (slots l) p)) ++ recordFields Reads k (drop (p + 1) (slots l))) (sym (add-one p))
+      ap (recordFields principals Reads p) (here p h)
+      ∙ ap (λ (k : ℕ). slotField principals p (shown Reads (at (slots l) p)) ++ recordFields principals Reads k (drop (p + 1) (slots l))) (sym (add-one p))
 
   -- the records before place p are written, n of them, and there is room for all
   pub record Written (b₀ b : List ℕ) (n p : ℕ) : Type 0 where
     pub place : p ≤ places
     pub few : n ≤ p
-    pub room : recordWidth * recordsShown Reads (slots l) ≤ length b₀
+    pub room : recordWidth principals * recordsShown Reads (slots l) ≤ length b₀
     pub count : n + recordsShown Reads (drop p (slots l)) ≡ recordsShown Reads (slots l)
-    pub writing : Writing (recordFields Reads 0 (slots l)) (recordFields Reads p (drop p (slots l))) b₀ b (recordWidth * n)
+    pub writing : Writing (recordFields principals Reads 0 (slots l)) (recordFields principals Reads p (drop p (slots l))) b₀ b (recordWidth principals * n)
 
-  pub none-yet : (b : List ℕ) → recordWidth * recordsShown Reads (slots l) ≤ length b → Written b b 0 0
+  pub none-yet : (b : List ℕ) → recordWidth principals * recordsShown Reads (slots l) ≤ length b → Written b b 0 0
   none-yet b h = record { place = omega arith; few = omega arith; room = h; count = omega arith; writing = start refl }
 
   module _ {b₀ b : List ℕ} {n p : ℕ} (w : Written b₀ b n p) where
     pub all-counted : places ≤ p → n ≡ recordsShown Reads (slots l)
     all-counted h = let none = count-nothing p h in omega (arith, w .count)
 
-    pub all-written : places ≤ p → b ≡ over (recordFields Reads 0 (slots l)) b₀
+    pub all-written : places ≤ p → b ≡ over (recordFields principals Reads 0 (slots l)) b₀
     unfolding recordFields
-    all-written h = ends (w .writing) (ap (recordFields Reads p) (nothing p h))
+    all-written h = ends (w .writing) (ap (recordFields principals Reads p) (nothing p h))
 
   module _ {b₀ b : List ℕ} {n p : ℕ} (w : Written b₀ b n p) (h : p < places) where
     -- what the slot at p adds to the count, if x is shown of it
@@ -69,15 +70,15 @@ module _ (Reads : Label → Bool) (l : List ℕ) where
         omega (arith, w .count)
 
     fields-next : (x : Slot) → shown Reads (at (slots l) p) ≡ x
-        → recordFields Reads p (drop p (slots l)) ≡ slotField p x ++ recordFields Reads (p + 1) (drop (p + 1) (slots l))
-    fields-next x e = fields-here p h ∙ ap (λ (y : Slot). slotField p y ++ recordFields Reads (p + 1) (drop (p + 1) (slots l))) e
+        → recordFields principals Reads p (drop p (slots l)) ≡ slotField principals p x ++ recordFields principals Reads (p + 1) (drop (p + 1) (slots l))
+    fields-next x e = fields-here p h ∙ ap (λ (y : Slot). slotField principals p y ++ recordFields principals Reads (p + 1) (drop (p + 1) (slots l))) e
 
     module _ (r : Record) (e : shown Reads (at (slots l) p) ≡ Full r) where
-      pub room-here : recordWidth * n + recordWidth ≤ length b₀
+      pub room-here : recordWidth principals * n + recordWidth principals ≤ length b₀
       room-here = let f = count-next (Full r) e in omega (arith, w .room)
 
       -- the record at p is shown, and written behind the n before it
-      pub written-here : {ys : List ℕ} → ys ≡ over (recordField p r) (part (recordWidth * n) b) → Written b₀ (back (recordWidth * n) b ys) (n + 1) (p + 1)
+      pub written-here : {ys : List ℕ} → ys ≡ over (recordField principals p r) (part (recordWidth principals * n) b) → Written b₀ (back (recordWidth principals * n) b ys) (n + 1) (p + 1)
       unfolding slotField
       written-here {ys} q =
           record {
@@ -86,9 +87,9 @@ module _ (Reads : Label → Bool) (l : List ℕ) where
             room = w .room;
             count = count-next (Full r) e;
             writing =
-                subst (Writing (recordFields Reads 0 (slots l)) (recordFields Reads (p + 1) (drop (p + 1) (slots l))) b₀ (back (recordWidth * n) b ys))
-                (let f : recordWidth * n + recordWidth ≡ recordWidth * (n + 1) = omega arith in f)
-                (piece (w .writing) (recordField p r) (fields-next (Full r) e) (length-record p r) room-here q);
+                subst (Writing (recordFields principals Reads 0 (slots l)) (recordFields principals Reads (p + 1) (drop (p + 1) (slots l))) b₀ (back (recordWidth principals * n) b ys))
+                (let f : recordWidth principals * n + recordWidth principals ≡ recordWidth principals * (n + 1) = omega arith in f)
+                (piece (w .writing) (recordField principals p r) (fields-next (Full r) e) (length-record principals p r) room-here q);
           }
 
     -- nothing is shown of place p

@@ -5,6 +5,7 @@ use mathlib.Core.Path.{_≡_, refl, sym, ap, ap₂, _∙_}
 use Prim.Native.Nat.{ℕ, suc, _+_}
 use native.Mathlib.Omega.{arith}
 use lib.ListN.{length}
+use Rattle.labels.specs.Tables.{principals}
 use Rattle.labels.specs.declared.Label.{Label}
 use Rattle.model.specs.State.{Store, Program, Outcome, at, shown}
 use Rattle.model.specs.declared.Account.{Account}
@@ -12,18 +13,18 @@ use Rattle.model.specs.declared.Slot.{Slot}
 use Rattle.model.specs.declared.Slot.the-variants.{Empty, Full}
 use Rattle.model.specs.declared.Ending.{Ending}
 use Rattle.model.proofs.LowEquivalence.{Ends, together, apart, LowOutcomes}
-use Rattle.view.specs.Layout.{slotField, recordFields, one, recordsShown, counts, final, viewLength, view}
+use Rattle.view.specs.Layout.{slotField, recordFields, one, recordsShown, counts, final, view, lengthOver, viewOver}
 
 -- the records of two stores of one length in which each place is shown alike
 module _ (Reads : Label → Bool) where
   fields-alike : (p : ℕ) (σ τ : Store) → length σ ≡ length τ → ((q : ℕ) → shown Reads (at σ q) ≡ shown Reads (at τ q))
-      → recordFields Reads p σ ≡ recordFields Reads p τ
+      → recordFields principals Reads p σ ≡ recordFields principals Reads p τ
   unfolding recordFields
   fields-alike p [] [] e h = refl
   fields-alike p [] (y ∷ τ) e h = absurd (omega arith)
   fields-alike p (x ∷ σ) [] e h = absurd (omega arith)
   fields-alike p (x ∷ σ) (y ∷ τ) e h =
-      ap₂ (λ (z : Slot) (r : List ℕ). slotField p z ++ r) (h 0) (fields-alike (suc p) σ τ (omega arith) (λ q. h (suc q)))
+      ap₂ (λ (z : Slot) (r : List ℕ). slotField principals p z ++ r) (h 0) (fields-alike (suc p) σ τ (omega arith) (λ q. h (suc q)))
 
   shown-alike : (σ τ : Store) → length σ ≡ length τ → ((q : ℕ) → shown Reads (at σ q) ≡ shown Reads (at τ q))
       → recordsShown Reads σ ≡ recordsShown Reads τ
@@ -54,14 +55,14 @@ module _ (Reads Low : Label → Bool) (within : (l : Label) → Reads l ≡ true
 
   -- ending, steps used, next place; result, label and clearance
   ends-alike : (s : ℕ) (σ τ : Store) (e f : Ending) (a b : Account) → Ends Low σ τ e a f b
-      → (counts Reads s e a ≡ counts Reads s f b) × (final Reads e a ≡ final Reads f b)
+      → (counts Reads s e a ≡ counts Reads s f b) × (final principals Reads e a ≡ final principals Reads f b)
   unfolding counts final
   ends-alike s σ τ e f a b (together o) = (refl, refl)
   ends-alike s σ τ e f a b (apart u v) = (rw (unread (a .label) u, unread (b .label) v), rw (unread (a .label) u, unread (b .label) v))
 
   -- Outcomes that an observer of the set can't tell apart give one view to each reader of labels in the set.
   pub same-view : (P : Program) (s : ℕ) (o q : Outcome) → LowOutcomes P Low o q → view Reads s o ≡ view Reads s q
-  unfolding view viewLength
+  unfolding viewOver lengthOver
   same-view P s o q m =
       let ends = ends-alike s (o .store) (q .store) (o .ending) (q .ending) (o .account) (q .account) (m .ends) in
       cc (

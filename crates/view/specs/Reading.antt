@@ -4,11 +4,12 @@ use mathlib.Core.List.{List, _++_}
 use Prim.Native.Nat.{ℕ}
 use lib.Dec.{leb, ltb, eqb}
 use lib.ListN.{length, drop}
+use Rattle.labels.specs.Tables.{principals}
 use Rattle.labels.specs.Order.{flows}
-use Rattle.script_file.specs.Sections.{header, labelAt}
+use Rattle.script_file.specs.Sections.{header, labelAtOver}
 use Rattle.script_file.specs.Checks.{refusal}
-use Rattle.script_file.specs.Program.{fileRun}
-use Rattle.view.specs.Layout.{view}
+use Rattle.script_file.specs.Program.{fileRunOver}
+use Rattle.view.specs.Layout.{viewOver}
 use Rattle.view.specs.declared.Answer.{Answer}
 use Rattle.view.specs.declared.Answer.the-variants.{Refused, Viewed}
 
@@ -17,9 +18,12 @@ pub record Reading : Type 0 where
   pub answer : Answer
   pub buffer : List ℕ
 
--- what the label with index i is shown of a file that loads
-unfoldable pub fileView : List ℕ → ℕ → List ℕ
-fileView bs i = view (λ l. flows l (labelAt bs i)) (header bs .steps) (fileRun bs)
+-- what the label with index i is shown of a file that loads, over n principals and over those that there are
+unfoldable pub fileViewOver : ℕ → List ℕ → ℕ → List ℕ
+fileViewOver n bs i = viewOver n (λ l. flows l (labelAtOver n bs i)) (header bs .steps) (fileRunOver n bs)
+
+abbrev pub fileView : List ℕ → ℕ → List ℕ
+fileView = fileViewOver principals
 
 -- "the output buffer is untouched"
 abbrev pub refuse : ℕ → List ℕ → Reading

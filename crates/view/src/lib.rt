@@ -11,11 +11,12 @@ use view_fields::VALUE;
 ghost use mathlib.Core.Path.{_≡_};
 ghost use Prim.Native.Nat.{_-_, _*_, _≤_};
 ghost use lib.ListN.{length};
+ghost use Rattle.labels.specs.Tables.{principals};
 ghost use Rattle.model.specs.State;
 ghost use Rattle.store.specs.Slots.{words, slots};
 ghost use Rattle.view_fields.specs.Fields.{recordWidth};
 ghost use Rattle.view_fields.specs.Writing.{over};
-ghost use Rattle.view.specs.Layout.{recordFields, recordsShown, counts, final, viewLength, view};
+ghost use Rattle.view.specs.Layout.{finalWidth, recordFields, recordsShown, counts, final, viewLength, view};
 ghost use Rattle.view.specs.Writing.{observes, closing, finished, shownIn};
 
 // What a read comes to.
@@ -89,8 +90,8 @@ fn records_shown(reader: Label, store: &[u64]) -> usize
 // Writes the records that the reader is shown, by rising place, and gives how many they are.
 fn write_records(reader: Label, store: &[u64], out: &mut [u8]) -> usize
     requires { ⌜ length (now store) ≡ words ⌝ }
-    requires { ⌜ recordWidth * recordsShown (observes reader) (slots (now store)) ≤ length (now out) ⌝ }
-    ensures { λ r. ⌜ (r ≤ 256) × (r ≡ recordsShown (observes reader) (slots (now (store .entry)))) × (now (out .exit) ≡ over (recordFields (observes reader) 0 (slots (now (store .entry)))) (now (out .entry))) ⌝ }
+    requires { ⌜ recordWidth principals * recordsShown (observes reader) (slots (now store)) ≤ length (now out) ⌝ }
+    ensures { λ r. ⌜ (r ≤ 256) × (r ≡ recordsShown (observes reader) (slots (now (store .entry)))) × (now (out .exit) ≡ over (recordFields principals (observes reader) 0 (slots (now (store .entry)))) (now (out .entry))) ⌝ }
 {
     let mut n = 0;
     let mut p = 0;
@@ -148,8 +149,8 @@ fn write_counts(reader: Label, steps: usize, finish: Finished, out: &mut [u8])
 
 // Result, label and clearance; zeros likewise.
 fn write_final(reader: Label, finish: Finished, out: &mut [u8])
-    requires { ⌜ 50 ≤ length (now out) ⌝ }
-    ensures { λ _. ⌜ now (out .exit) ≡ over (final (observes reader) (finish .ending) (closing finish)) (now (out .entry)) ⌝ }
+    requires { ⌜ finalWidth principals ≤ length (now out) ⌝ }
+    ensures { λ _. ⌜ now (out .exit) ≡ over (final principals (observes reader) (finish .ending) (closing finish)) (now (out .entry)) ⌝ }
 {
     let ending = finish.ending;
     let label = finish.label;

@@ -4,6 +4,7 @@ use mathlib.Core.List.{List, _++_}
 use Prim.Native.Nat.{ℕ, zero, suc, _+_, _≤_, _/_}
 use native.Mathlib.Omega.{arith}
 use lib.ListN.{length, length-append}
+use Rattle.labels.specs.Tables.{principals, whole}
 use Rattle.labels.specs.declared.Label.{Label}
 use Rattle.model.specs.declared.Kind.{Kind}
 use Rattle.model.specs.declared.Kind.the-variants.{Sealed, Reference}
@@ -14,7 +15,7 @@ use Rattle.model.specs.declared.Contents.the-variants.{Value as Holds, Fault}
 use Rattle.model.specs.declared.Record.{Record}
 use Rattle.model.specs.declared.Ending.{Ending}
 use Rattle.model.specs.declared.Ending.the-variants.{Result, Fault as Faulted, Spent}
-use Rattle.view_fields.specs.Fields.{labelWidth, valueWidth, recordWidth, littleEndian, labelField, valueField, datumField, contentsField, resultField, kindByte, recordField}
+use Rattle.view_fields.specs.Fields.{tableWidth, labelWidth, valueWidth, recordWidth, littleEndian, labelField, valueField, datumField, contentsField, resultField, kindByte, recordField}
 use Rattle.view_fields.specs.Writing.{numbers, tripleField}
 use Rattle.view_fields.specs.declared.Triple.{Triple}
 
@@ -35,52 +36,56 @@ length-numbers a b c =
     length-two (littleEndian 2 a) (littleEndian 2 b ++ littleEndian 2 c) 2 4 (length-number 2 a)
     (length-two (littleEndian 2 b) (littleEndian 2 c) 2 2 (length-number 2 b) (length-number 2 c))
 
-two-words : (x y : ℕ) → length (littleEndian 8 x ++ littleEndian 8 y) ≡ labelWidth
-two-words x y = length-two (littleEndian 8 x) (littleEndian 8 y) 8 8 (length-number 8 x) (length-number 8 y)
+two-words : (n x y : ℕ) → length (littleEndian (tableWidth n) x ++ littleEndian (tableWidth n) y) ≡ labelWidth n
+two-words n x y =
+    length-two (littleEndian (tableWidth n) x) (littleEndian (tableWidth n) y) (tableWidth n) (tableWidth n)
+    (length-number (tableWidth n) x) (length-number (tableWidth n) y)
 
-pub length-label : (l : Label) → length (labelField l) ≡ labelWidth
-unfolding labelField
-length-label l = two-words (l .secrecy) (l .integrity)
+module _ (n : ℕ) where
+  pub length-label : (l : Label) → length (labelField n l) ≡ labelWidth n
+  unfolding labelField
+  length-label l = two-words n (whole (l .secrecy)) (whole (l .integrity))
 
-length-value : (k x y : ℕ) → length (valueField k x y) ≡ valueWidth
-length-value k x y = ap (λ (n : ℕ). suc (suc n)) (two-words x y)
+  length-value : (k x y : ℕ) → length (valueField n k x y) ≡ valueWidth n
+  length-value k x y = let e = two-words n x y in omega arith
 
-pub length-triple : (v : Triple) → length (tripleField v) ≡ valueWidth
-length-triple v = length-value (v .kind) (v .first) (v .second)
+pub length-triple : (v : Triple) → length (tripleField v) ≡ valueWidth principals
+length-triple v = length-value principals (v .kind) (whole (v .first)) (whole (v .second))
 
 -- a handle's kind is 3 or 4, by that of its record
-pub handle-field : (k : Kind) (p : ℕ) → datumField (Handle k p) ≡ valueField (3 + kindByte k) p 0
+pub handle-field : (n : ℕ) (k : Kind) (p : ℕ) → datumField n (Handle k p) ≡ valueField n (3 + kindByte k) p 0
 unfolding datumField kindByte
-handle-field Sealed p = refl
-handle-field Reference p = refl
+handle-field n Sealed p = refl
+handle-field n Reference p = refl
 
 pub kind-small : (k : Kind) → kindByte k ≤ 1
 unfolding kindByte
 kind-small Sealed = omega arith
 kind-small Reference = omega arith
 
-length-datum : (d : Datum) → length (datumField d) ≡ valueWidth
-unfolding datumField
-length-datum (Number n) = length-value 1 n 0
-length-datum (Labelled l) = length-value 2 (l .secrecy) (l .integrity)
-length-datum (Handle Sealed p) = length-value 3 p 0
-length-datum (Handle Reference p) = length-value 4 p 0
+module _ (n : ℕ) where
+  length-datum : (d : Datum) → length (datumField n d) ≡ valueWidth n
+  unfolding datumField
+  length-datum (Number x) = length-value n 1 x 0
+  length-datum (Labelled l) = length-value n 2 (whole (l .secrecy)) (whole (l .integrity))
+  length-datum (Handle Sealed p) = length-value n 3 p 0
+  length-datum (Handle Reference p) = length-value n 4 p 0
 
-length-contents : (c : Contents) → length (contentsField c) ≡ valueWidth
-unfolding contentsField
-length-contents (Holds d) = length-datum d
-length-contents (Fault code n) = length-value 5 code n
+  length-contents : (c : Contents) → length (contentsField n c) ≡ valueWidth n
+  unfolding contentsField
+  length-contents (Holds d) = length-datum d
+  length-contents (Fault code x) = length-value n 5 code x
 
-pub length-result : (e : Ending) → length (resultField e) ≡ valueWidth
-unfolding resultField
-length-result (Result d) = length-datum d
-length-result (Faulted code n) = length-value 5 code n
-length-result Spent = length-value 0 0 0
+  pub length-result : (e : Ending) → length (resultField n e) ≡ valueWidth n
+  unfolding resultField
+  length-result (Result d) = length-datum d
+  length-result (Faulted code x) = length-value n 5 code x
+  length-result Spent = length-value n 0 0 0
 
--- ── records ──
+  -- ── records ──
 
-pub length-record : (p : ℕ) (r : Record) → length (recordField p r) ≡ recordWidth
-unfolding recordField
-length-record p r =
-    ap (λ (n : ℕ). suc (suc n))
-    (length-two (labelField (r .label)) (contentsField (r .contents)) 16 18 (length-label (r .label)) (length-contents (r .contents)))
+  pub length-record : (p : ℕ) (r : Record) → length (recordField n p r) ≡ recordWidth n
+  unfolding recordField
+  length-record p r =
+      let e = length-two (labelField n (r .label)) (contentsField n (r .contents)) (labelWidth n) (valueWidth n) (length-label n (r .label)) (length-contents (r .contents)) in
+      omega arith

@@ -1,6 +1,7 @@
--- The fields of a view, byte by byte: numbers, labels, values, the result and a record.
+-- The fields of a view, byte by byte: numbers, labels, values, the result and a record. Tables are those of n principals.
 use mathlib.Core.List.{List, [], _∷_, _++_}
-use Prim.Native.Nat.{ℕ, zero, suc, _/_, _%_}
+use Prim.Native.Nat.{ℕ, zero, suc, _+_, _/_, _%_, _^_}
+use Rattle.labels.specs.Tables.{whole}
 use Rattle.labels.specs.declared.Label.{Label}
 use Rattle.model.specs.declared.Kind.{Kind}
 use Rattle.model.specs.declared.Kind.the-variants.{Sealed, Reference}
@@ -12,21 +13,20 @@ use Rattle.model.specs.declared.Record.{Record}
 use Rattle.model.specs.declared.Ending.{Ending}
 use Rattle.model.specs.declared.Ending.the-variants.{Result, Fault as Faulted, Spent}
 
--- ── widths ──
+-- ── widths, in bytes, over n principals ──
 
--- bytes of a table or a word; of a label; of a value: kind, a 0 byte, two words
-abbrev wordWidth : ℕ
-wordWidth = 8
+-- a table, and as wide a word; a label: two tables; a value: kind, a 0 byte, two words; a record: place, kind, a label, a value
+abbrev pub tableWidth : ℕ → ℕ
+tableWidth n = 2 ^ n / 8
 
-abbrev pub labelWidth : ℕ
-labelWidth = 16
+abbrev pub labelWidth : ℕ → ℕ
+labelWidth n = tableWidth n + tableWidth n
 
-abbrev pub valueWidth : ℕ
-valueWidth = 18
+abbrev pub valueWidth : ℕ → ℕ
+valueWidth n = 2 + tableWidth n + tableWidth n
 
--- a record: place, kind, a label, a value
-abbrev pub recordWidth : ℕ
-recordWidth = 36
+abbrev pub recordWidth : ℕ → ℕ
+recordWidth n = 2 + labelWidth n + valueWidth n
 
 -- ── numbers, labels and values ──
 
@@ -35,22 +35,22 @@ unfoldable pub littleEndian : ℕ → ℕ → List ℕ
 littleEndian zero n = []
 littleEndian (suc k) n = n % 256 ∷ littleEndian k (n / 256)
 
-unfoldable pub labelField : Label → List ℕ
-labelField l = littleEndian wordWidth (l .secrecy) ++ littleEndian wordWidth (l .integrity)
+unfoldable pub labelField : ℕ → Label → List ℕ
+labelField n l = littleEndian (tableWidth n) (whole (l .secrecy)) ++ littleEndian (tableWidth n) (whole (l .integrity))
 
--- "A value is kind, a 0 byte, two 64-bit words"
-abbrev pub valueField : ℕ → ℕ → ℕ → List ℕ
-valueField k x y = k ∷ 0 ∷ littleEndian wordWidth x ++ littleEndian wordWidth y
+-- "A value is kind, a 0 byte, two" words as wide as a table, "with zeros above a number"
+abbrev pub valueField : ℕ → ℕ → ℕ → ℕ → List ℕ
+valueField n k x y = k ∷ 0 ∷ littleEndian (tableWidth n) x ++ littleEndian (tableWidth n) y
 
-unfoldable pub datumField : Datum → List ℕ
-datumField (Number n) = valueField 1 n 0
-datumField (Labelled l) = valueField 2 (l .secrecy) (l .integrity)
-datumField (Handle Sealed p) = valueField 3 p 0
-datumField (Handle Reference p) = valueField 4 p 0
+unfoldable pub datumField : ℕ → Datum → List ℕ
+datumField n (Number x) = valueField n 1 x 0
+datumField n (Labelled l) = valueField n 2 (whole (l .secrecy)) (whole (l .integrity))
+datumField n (Handle Sealed p) = valueField n 3 p 0
+datumField n (Handle Reference p) = valueField n 4 p 0
 
-unfoldable pub contentsField : Contents → List ℕ
-contentsField (Holds d) = datumField d
-contentsField (Fault code n) = valueField 5 code n
+unfoldable pub contentsField : ℕ → Contents → List ℕ
+contentsField n (Holds d) = datumField n d
+contentsField n (Fault code x) = valueField n 5 code x
 
 -- ── the ending ──
 
@@ -60,11 +60,11 @@ endingNumber (Result d) = 1
 endingNumber (Faulted code n) = 2
 endingNumber Spent = 3
 
--- "result (18 bytes; the fault, or none if spent)"
-unfoldable pub resultField : Ending → List ℕ
-resultField (Result d) = datumField d
-resultField (Faulted code n) = valueField 5 code n
-resultField Spent = valueField 0 0 0
+-- "result (the fault, or none if spent)"
+unfoldable pub resultField : ℕ → Ending → List ℕ
+resultField n (Result d) = datumField n d
+resultField n (Faulted code x) = valueField n 5 code x
+resultField n Spent = valueField n 0 0 0
 
 -- ── records ──
 
@@ -73,5 +73,5 @@ kindByte Sealed = 0
 kindByte Reference = 1
 
 -- "place and kind (one byte each), label, value"
-unfoldable pub recordField : ℕ → Record → List ℕ
-recordField p r = p ∷ kindByte (r .kind) ∷ labelField (r .label) ++ contentsField (r .contents)
+unfoldable pub recordField : ℕ → ℕ → Record → List ℕ
+recordField n p r = p ∷ kindByte (r .kind) ∷ labelField n (r .label) ++ contentsField n (r .contents)

@@ -2,6 +2,7 @@
 use mathlib.Core.List.{List, _++_}
 use Prim.Native.Nat.{ℕ}
 use lib.ListN.{length, drop}
+use Rattle.labels.specs.Tables.{principals, whole}
 use Rattle.view_fields.specs.Fields.{littleEndian, valueField}
 use Rattle.view_fields.specs.declared.Triple.{Triple}
 
@@ -15,4 +16,4 @@ numbers a b c = littleEndian 2 a ++ (littleEndian 2 b ++ littleEndian 2 c)
 
 -- a value as the code holds it
 abbrev pub tripleField : Triple → List ℕ
-tripleField v = valueField (v .kind) (v .first) (v .second)
+tripleField v = valueField principals (v .kind) (whole (v .first)) (whole (v .second))

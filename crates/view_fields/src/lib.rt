@@ -1,5 +1,6 @@
 // The fields of a view, written into a buffer that the caller lends: numbers, labels, values, the result and a record.
 use labels::Label;
+use labels::Table;
 use model::Contents;
 use model::Datum;
 use model::Ending;
@@ -9,33 +10,40 @@ ghost use mathlib.Core.Path.{_≡_};
 ghost use mathlib.Core.List.{[], _∷_};
 ghost use Prim.Native.Nat.{_≤_};
 ghost use lib.ListN.{length, replicate};
-ghost use Rattle.view_fields.specs.Fields.{labelWidth, valueWidth, recordWidth, littleEndian, labelField, datumField, contentsField, endingNumber, resultField, kindByte, recordField};
+ghost use Rattle.labels.specs.Tables.{principals, whole};
+ghost use Rattle.view_fields.specs.Fields.{tableWidth, labelWidth, valueWidth, recordWidth, littleEndian, labelField, datumField, contentsField, endingNumber, resultField, kindByte, recordField};
 ghost use Rattle.view_fields.specs.Writing.{over, numbers, tripleField};
 
-// A value as a view has it: its kind, and two words.
+// A value as a view has it: its kind, and two words as wide as a table.
 pub struct Triple {
     pub kind: u8,
-    pub first: u64,
-    pub second: u64,
+    pub first: Table,
+    pub second: Table,
 }
 
 // ---- the widths and offsets of fields, in bytes
 
-// A 16-bit number and two of them, a word, a label, and a value.
+// A 16-bit number and two of them, a word of a table and two of them, a table, a label, and a value.
 pub const NUMBER: usize = 2;
 
 const TWO_NUMBERS: usize = 2 * NUMBER;
 
 const WORD: usize = 8;
 
-pub const LABEL: usize = 2 * WORD;
+const TWO_WORDS: usize = 2 * WORD;
 
-pub const VALUE: usize = 2 + 2 * WORD;
+const THREE_WORDS: usize = 3 * WORD;
 
-// Of a value: its words behind the kind and a 0 byte.
+pub const TABLE: usize = 4 * WORD;
+
+pub const LABEL: usize = 2 * TABLE;
+
+pub const VALUE: usize = 2 + 2 * TABLE;
+
+// Of a value: what is behind the kind and a 0 byte.
 const FIRST: usize = 2;
 
-const SECOND: usize = FIRST + WORD;
+const SECOND: usize = FIRST + TABLE;
 
 // Of a record: its label and its value behind the place and the kind, and its width.
 const RECORD_LABEL: usize = 2;
@@ -89,57 +97,72 @@ pub fn write_pair(a: u8, b: u8, out: &mut [u8])
     out[1] = b;
 }
 
-pub fn write_label(l: Label, out: &mut [u8])
-    requires { ⌜ labelWidth ≤ length (now out) ⌝ }
-    ensures { λ _. ⌜ now (out .exit) ≡ over (labelField l) (now (out .entry)) ⌝ }
+// A table, its lowest word first.
+fn write_table(t: Table, out: &mut [u8])
+    requires { ⌜ tableWidth principals ≤ length (now out) ⌝ }
+    ensures { λ _. ⌜ now (out .exit) ≡ over (littleEndian (tableWidth principals) (whole t)) (now (out .entry)) ⌝ }
 {
-    write_number(l.secrecy, WORD, out);
-    write_number(l.integrity, WORD, &mut out[WORD..]);
+    write_number(t.word0, WORD, out);
+    write_number(t.word1, WORD, &mut out[WORD..]);
+    write_number(t.word2, WORD, &mut out[TWO_WORDS..]);
+    write_number(t.word3, WORD, &mut out[THREE_WORDS..]);
 }
 
-// A value: its kind, a 0 byte, two words.
+pub fn write_label(l: Label, out: &mut [u8])
+    requires { ⌜ labelWidth principals ≤ length (now out) ⌝ }
+    ensures { λ _. ⌜ now (out .exit) ≡ over (labelField principals l) (now (out .entry)) ⌝ }
+{
+    write_table(l.secrecy, out);
+    write_table(l.integrity, &mut out[TABLE..]);
+}
+
+// A value: its kind, a 0 byte, two words as wide as a table.
 pub fn write_value(v: Triple, out: &mut [u8])
-    requires { ⌜ valueWidth ≤ length (now out) ⌝ }
+    requires { ⌜ valueWidth principals ≤ length (now out) ⌝ }
     ensures { λ _. ⌜ now (out .exit) ≡ over (tripleField v) (now (out .entry)) ⌝ }
 {
     write_pair(v.kind, 0, out);
-    write_number(v.first, WORD, &mut out[FIRST..]);
-    write_number(v.second, WORD, &mut out[SECOND..]);
+    write_table(v.first, &mut out[FIRST..]);
+    write_table(v.second, &mut out[SECOND..]);
 }
 
 // The value that a datum is shown as.
 fn of_datum(d: Datum) -> Triple
-    ensures { λ r. ⌜ tripleField r ≡ datumField d ⌝ }
+    ensures { λ r. ⌜ tripleField r ≡ datumField principals d ⌝ }
 {
     match d {
         Datum::Number(n) => Triple {
             kind: 1,
-            first: n as u64,
-            second: 0,
+            first: labels::low_table(n as u64),
+            second: labels::low_table(0),
         },
-        Datum::Label(l) => Triple {
-            kind: 2,
-            first: l.secrecy,
-            second: l.integrity,
-        },
+        Datum::Label(l) => {
+            let first = l.secrecy;
+            let second = l.integrity;
+            Triple {
+                kind: 2,
+                first: first,
+                second: second,
+            }
+        }
         Datum::Handle(kind, p) => Triple {
             kind: 3 + kind_byte(kind),
-            first: p as u64,
-            second: 0,
+            first: labels::low_table(p as u64),
+            second: labels::low_table(0),
         },
     }
 }
 
 // The value that a record's contents are shown as.
 fn of_contents(contents: Contents) -> Triple
-    ensures { λ r. ⌜ tripleField r ≡ contentsField contents ⌝ }
+    ensures { λ r. ⌜ tripleField r ≡ contentsField principals contents ⌝ }
 {
     match contents {
         Contents::Value(d) => of_datum(d),
         Contents::Fault(code, number) => Triple {
             kind: 5,
-            first: code as u64,
-            second: number as u64,
+            first: labels::low_table(code as u64),
+            second: labels::low_table(number as u64),
         },
     }
 }
@@ -158,19 +181,19 @@ pub fn ending_number(ending: Ending) -> u64
 
 // The value that a run's result is shown as: the fault, or none if spent.
 pub fn of_ending(ending: Ending) -> Triple
-    ensures { λ r. ⌜ tripleField r ≡ resultField ending ⌝ }
+    ensures { λ r. ⌜ tripleField r ≡ resultField principals ending ⌝ }
 {
     match ending {
         Ending::Result(d) => of_datum(d),
         Ending::Fault(code, number) => Triple {
             kind: 5,
-            first: code as u64,
-            second: number as u64,
+            first: labels::low_table(code as u64),
+            second: labels::low_table(number as u64),
         },
         Ending::Spent => Triple {
             kind: 0,
-            first: 0,
-            second: 0,
+            first: labels::low_table(0),
+            second: labels::low_table(0),
         },
     }
 }
@@ -188,8 +211,8 @@ fn kind_byte(kind: Kind) -> u8
 
 // Writes the record at place `p`.
 pub fn write_record(p: u8, r: Record, out: &mut [u8])
-    requires { ⌜ recordWidth ≤ length (now out) ⌝ }
-    ensures { λ _. ⌜ now (out .exit) ≡ over (recordField p r) (now (out .entry)) ⌝ }
+    requires { ⌜ recordWidth principals ≤ length (now out) ⌝ }
+    ensures { λ _. ⌜ now (out .exit) ≡ over (recordField principals p r) (now (out .entry)) ⌝ }
 {
     let kind = r.kind;
     let label = r.label;

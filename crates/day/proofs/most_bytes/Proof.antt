@@ -16,7 +16,7 @@ use Rattle.day.proofs.most_bytes.Tie as tie
 
 abbrev Inv-loop : tie.InvT-loop
 Inv-loop file first count n₀ k₀ n k =
-    (k ≤ count) × (n ≤ 9278 * k) × (n + mostBytes (jobsLeft file first count k) ≡ mostBytes (jobsLeft file first count 0))
+    (k ≤ count) × (n ≤ 33998 * k) × (n + mostBytes (jobsLeft file first count k) ≡ mostBytes (jobsLeft file first count 0))
 
 abbrev μ-loop : tie.MeasureT-loop
 μ-loop file first count n₀ k₀ n k = count - k
@@ -75,10 +75,10 @@ module _ (a : tie.After-job-at Inv-loop μ-loop) where
       let f = job-fits (bs b) (b .pre .1) (k inside) (rw (← b .pre .0) (below inside)) in
       omega (arith, same-places, rw (← b .pre .0) at (f .places))
 
-  small : head inside .loop .n + (62 + 36 * places) ≤ 9278 * (k inside + 1)
+  small : head inside .loop .n + (206 + 132 * places) ≤ 33998 * (k inside + 1)
   small = omega (arith, limited, head inside .loop .inv .1)
 
-  more : head inside .loop .n + (62 + 36 * places) + mostBytes (jobsLeft (bs (begun inside)) (h (begun inside) .jobs .offset) (h (begun inside) .jobs .count) (k inside + 1))
+  more : head inside .loop .n + (206 + 132 * places) + mostBytes (jobsLeft (bs (begun inside)) (h (begun inside) .jobs .offset) (h (begun inside) .jobs .count) (k inside + 1))
       ≡ mostBytes (jobsLeft (bs (begun inside)) (h (begun inside) .jobs .offset) (h (begun inside) .jobs .count) 0)
   more =
       let b = begun inside in

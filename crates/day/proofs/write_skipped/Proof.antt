@@ -16,7 +16,7 @@ returns c =
     let m : tie.After-write-numbers2 = search in
     let n : tie.After-write-numbers = search in
     let b : tie.Start = search in
-    three (numbers 4 0 0) (numbers 0 62 62) (replicate 50 0) _ (length-numbers 4 0 0) (length-numbers 0 62 62) refl (omega (arith, b .pre))
+    three (numbers 4 0 0) (numbers 0 206 206) (replicate 194 0) _ (length-numbers 4 0 0) (length-numbers 0 206 206) refl (omega (arith, b .pre))
     (n .write-numbers .ensures) (m .write-numbers2 .ensures) (z .write-zeros .ensures)
     ∙ skipped-parts _
 

@@ -93,7 +93,7 @@ module _ (i : Inside) where
   starts-below : h begun .jobs .offset + 12 * k < 70000
   starts-below = omega (arith, below, few begun, within begun, short begun)
 
-  at-below : head .loop .at ≤ 148448
+  at-below : head .loop .at ≤ 543968
   at-below = omega (arith, head .loop .inv .few, below, few begun)
 
 module _ (a : tie.After-job-at Inv-loop μ-loop) where

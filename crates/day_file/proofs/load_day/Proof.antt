@@ -6,8 +6,9 @@ use Prim.Native.Nat.{ℕ}
 use native.Mathlib.Omega.{arith}
 use lib.ListN.{length}
 use borrow.Author.Tests.{not-true, not-false}
-use Rattle.file_sections.specs.Words.{tableOf}
-use Rattle.file_sections.specs.declared.Table.{Table}
+use Rattle.file_sections.specs.Words.{labelsFound}
+use Rattle.file_sections.proofs.Labels.{length-found}
+use Rattle.file_sections.specs.declared.FileLabels.{FileLabels}
 use Rattle.day_file.specs.Checks.{passes1, passes2, passes3, passes4, passes10, passes6, passes7, dayRefusal}
 use Rattle.day_file.specs.Sections.{dayHeader, dayLabels}
 use Rattle.day_file.specs.declared.Header.{Header}
@@ -15,7 +16,7 @@ use Rattle.day_file.specs.declared.Loaded.the-variants.{Day}
 use Rattle.day_file.proofs.Tests.{Comes, past, stopped}
 use Rattle.day_file.proofs.Limits.{Counted, Placed, counted, placed}
 use Rattle.day_file.proofs.Answers.{from2, from3, from4, from10, from6, from7, refuses, loads}
-use Rattle.day_file.proofs.Findings.{finds1, finds2, finds3, finds4, finds10, finds6, day-table, words-64}
+use Rattle.day_file.proofs.Findings.{finds1, finds2, finds3, finds4, finds10, finds6, day-table}
 use borrow.Author.Needs.{needs}
 use Rattle.day_file.proofs.load_day.Statement.{statement}
 use Rattle.day_file.proofs.load_day.Tie as tie
@@ -101,7 +102,7 @@ module _ (e : tie.Else3) where
   placing = let a : tie.After-offsets-ok = search in placed _ _ (sym (a .offsets-ok .ensures) ∙ not-false _ (e .if3 .left))
 
 module _ (l : tie.After-read-labels) where
-  table : l .read-labels .result ≡ tableOf (dayLabels (bs (search)))
+  table : l .read-labels .result ≡ labelsFound (dayLabels (bs (search)))
   table = let h : tie.After-read-header = search in day-table (bs h) (head h) (is-head h) _ (l .read-labels .ensures)
 
   check4 : passes4 (bs (search)) ≡ l .read-labels .result .whole
@@ -164,7 +165,7 @@ jobs-ok-requires : tie.Need-jobs-ok-requires
 jobs-ok-requires c κs =
     let l : tie.After-read-labels = search in
     let h : tie.After-read-header = search in
-    (h .read-header .ensures .1, words-64 (bs h) _ (table l))
+    (h .read-header .ensures .1, length-found (dayLabels (bs h)) _ (table l))
 
 jobs-refused : tie.Need-returns-5
 jobs-refused c = let h : tie.After-read-header = search in refuses (bs h) (ws h) 9 (stopped (check10 (search) ∙ not-true _ (c .if5 .taken)) (at10 (search)))
@@ -188,7 +189,7 @@ day-loaded : tie.Need-returns-8
 day-loaded c =
     let h : tie.After-read-header = search in
     let q = loads (bs h) (ws h) (sym (past (check7 (search) ∙ not-false _ (c .if7 .left)) (at7 (search)))) in
-    (ap Day (is-head h) ∙ q .0, ap (λ (t : Table). t .words) (table (search)) ∙ q .1)
+    (ap Day (is-head h) ∙ q .0, ap (λ (t : FileLabels). t .words) (table (search)) ∙ q .1)
 
 pub load-day-spec : {M : Type 1} → statement M
 load-day-spec =

@@ -67,7 +67,7 @@ run-job-spec =
     (search needs)
     (search needs)
     (search needs)
-    (search needs)
+    (λ c. let b : tie.Start = search in omega (arith, inside b))
     (λ c. omega (arith, first (search)))
     (λ c. omega (arith, first (search)))
     (λ c. omega (arith, within (search)))

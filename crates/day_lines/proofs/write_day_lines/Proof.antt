@@ -94,11 +94,11 @@ module _ (i : Inside) where
   starts-below : h begun .jobs .offset + 12 * k < 70000
   starts-below = omega (arith, below, few begun, within begun, most-bytes (bs begun) (loads begun .none))
 
-  at-below : head .loop .at ≤ 325776
+  at-below : head .loop .at ≤ 1116816
   at-below = omega (arith, head .loop .inv .few, below, few begun)
 
   -- its store is there
-  there : 1536 * k + 1536 ≤ length (begun .args .stores .now)
+  there : 4608 * k + 4608 ≤ length (begun .args .stores .now)
   there = omega (arith, small, begun .pre .3)
 
 write-job-line-requires : tie.Need-write-job-line-requires Inv-loop μ-loop
@@ -116,7 +116,7 @@ module _ (w : tie.After-write-job-line Inv-loop μ-loop) where
   job-read = search
 
   -- what is kept of the job, as the code has it and as the definition says
-  turn-is : turnOf (job-read .job-at .result .steps) (getD (begun inside .args .ends .jobs) (k inside) none) (take (1536 * k inside + 1536 - 1536 * k inside) (drop (1536 * k inside) (begun inside .args .stores .now)))
+  turn-is : turnOf (job-read .job-at .result .steps) (getD (begun inside .args .ends .jobs) (k inside) none) (take (4608 * k inside + 4608 - 4608 * k inside) (drop (4608 * k inside) (begun inside .args .stores .now)))
       ≡ turnOf (jobFrom (bs (begun inside)) (dayHeader (bs (begun inside)) .jobs .offset + 12 * k inside) .steps) (getD (begun inside .args .ends .jobs) (k inside) none) (storeAt (k inside) (begun inside .args .stores .now))
   turn-is =
       ap₂ (λ (s : ℕ) (ws : List ℕ). turnOf s (getD (begun inside .args .ends .jobs) (k inside) none) ws)

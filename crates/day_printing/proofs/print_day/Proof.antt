@@ -14,18 +14,18 @@ use Rattle.day_printing.proofs.print_day.Statement.{statement}
 use Rattle.day_printing.proofs.print_day.Tie as tie
 
 -- by the lemma, since counting so many zeros takes the checker long
-long : 325776 ≡ length {A = ℕ} (replicate 325776 0)
-long = sym (length-replicate {A = ℕ} 325776 0)
+long : 1116816 ≡ length {A = ℕ} (replicate 1116816 0)
+long = sym (length-replicate {A = ℕ} 1116816 0)
 
-stores-long : 24576 ≡ length {A = ℕ} (replicate 24576 0)
-stores-long = sym (length-replicate {A = ℕ} 24576 0)
+stores-long : 73728 ≡ length {A = ℕ} (replicate 73728 0)
+stores-long = sym (length-replicate {A = ℕ} 73728 0)
 
 module _ (l : tie.After-load-day) where
   abbrev begun : tie.Start
   begun = search
 
-  as-many : length (l .load-day .last .1 .0) ≡ 64
-  as-many = length-lent (dayRefusal (begun .args .file .now)) (dayLabels (begun .args .file .now)) (replicate 64 0) _ refl (l .load-day .ensures .1)
+  as-many : length (l .load-day .last .1 .0) ≡ 256
+  as-many = length-lent (dayRefusal (begun .args .file .now)) (dayLabels (begun .args .file .now)) (replicate 256 0) _ refl (l .load-day .ensures .1)
 
 small : (f : tie.After-loaded) → f .loaded .given .0 .0 ≤ 10
 small f = let l : tie.After-load-day = search in refused-number _ _ (sym (f .loaded .given .1) ∙ l .load-day .ensures .0) .2
@@ -38,7 +38,7 @@ module _ (f : tie.After-loaded2) where
   loads = day-loads _ _ _ _ (sym (f .loaded2 .given .1) ∙ load .load-day .ensures .0) (load .load-day .ensures .1)
 
 -- the day is run
-stores-kept : (r : tie.After-run-day) → length (r .run-day .last .1 .1 .1 .0) ≡ 24576
+stores-kept : (r : tie.After-run-day) → length (r .run-day .last .1 .1 .1 .0) ≡ 73728
 stores-kept r = r .run-day .kept .1 .1 .1 .0 ∙ sym stores-long
 
 run-day-requires : tie.Need-run-day-requires

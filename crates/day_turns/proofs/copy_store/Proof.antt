@@ -9,10 +9,10 @@ use Rattle.day_turns.proofs.copy_store.Tie as tie
 
 -- i words are copied
 abbrev Inv-loop : tie.InvT-loop
-Inv-loop from to₀ i₀ to i = (i ≤ 1536) × Writing from (drop i from) to₀ to i
+Inv-loop from to₀ i₀ to i = (i ≤ 4608) × Writing from (drop i from) to₀ to i
 
 abbrev μ-loop : tie.MeasureT-loop
-μ-loop from to₀ i₀ to i = 1536 - i
+μ-loop from to₀ i₀ to i = 4608 - i
 
 abbrev Start : Type 0
 Start = tie.Start Inv-loop μ-loop

@@ -64,12 +64,17 @@ place-inputs-requires : tie.Need-place-inputs-requires Inv-loop μ-loop
 place-inputs-requires c κs =
     let b : Begun = search in (omega (arith, records-short (bs b) (h b) (ws b) (loads b)), b .pre .1, refl, no-records)
 
+abbrev placed : (p : tie.After-place-inputs Inv-loop μ-loop) → Begun
+placed p = search
+
 loop-holds : tie.Need-loop-holds Inv-loop μ-loop
 loop-holds c =
-    let p : tie.After-place-inputs Inv-loop μ-loop = search in
     let a : tie.After-full-allowances Inv-loop μ-loop = search in
-    let b : Begun = search in
-    none-kept (bs b) _ _ _ (a .full-allowances .ensures ∙ ap (λ (g : Header). allowancesOf (g .steps)) (loads b .numbers)) (b .pre .2) (p .place-inputs .kept .1 .1 .0)
+    let m : tie.After-no-label2 Inv-loop μ-loop = search in
+    let l : tie.After-no-label Inv-loop μ-loop = search in
+    let p : tie.After-place-inputs Inv-loop μ-loop = search in
+    let b = placed p in
+    none-kept (bs b) (l .no-label .ensures) (m .no-label2 .ensures) _ _ _ (a .full-allowances .ensures ∙ ap (λ (g : Header). allowancesOf (g .steps)) (loads b .numbers)) (b .pre .2) (p .place-inputs .kept .1 .1 .0)
     (inputs-placed (bs b) (h b) (ws b) (loads b) _ (p .place-inputs .ensures))
 
 -- job k of the day
@@ -92,7 +97,7 @@ module _ (i : Inside) where
   small : k < 16
   small = omega (arith, below, few begun)
 
-  room : 1536 * k + 1536 ≤ length (head .loop .stores)
+  room : 4608 * k + 4608 ≤ length (head .loop .stores)
   room = omega (arith, small, head .loop .inv .room)
 
   starts-below : h begun .jobs .offset + 12 * k < 70000
@@ -135,7 +140,8 @@ loop-again c =
 returns : tie.Need-returns Inv-loop μ-loop
 returns c =
     let t : Head = search in
-    let b : Begun = search in
+    let p : tie.After-place-inputs Inv-loop μ-loop = search in
+    let b = placed p in
     all-kept (bs b) (t .loop .inv) (subst (λ (g : Header). g .jobs .count ≤ t .loop .k) (loads b .numbers) (omega (arith, c .loop-test .left)))
 
 pub run-day-spec : {M : Type 1} → statement M
@@ -149,6 +155,8 @@ run-day-spec =
     (λ c. omega (arith, within (search)))
     (λ c. refl)
     place-inputs-requires
+    (search needs)
+    (search needs)
     (search needs)
     loop-holds
     (λ c. omega (arith, starts-below (search)))
@@ -168,5 +176,5 @@ run-day-spec =
     (λ c. omega (arith, small (search)))
     (λ c. let i : Inside = search in omega (arith, below i))
     loop-again
-    (λ c. let t : Head = search in let b : Begun = search in t .loop .inv .room ∙ sym (b .pre .2))
+    (λ c. let t : Head = search in let p : tie.After-place-inputs Inv-loop μ-loop = search in t .loop .inv .room ∙ sym (placed p .pre .2))
     returns)

@@ -11,8 +11,8 @@ use Rattle.file_lines.proofs.write_printed.Statement.{statement}
 use Rattle.file_lines.proofs.write_printed.Tie as tie
 
 module _ (l : tie.After-load) where
-  as-many : length (l .load .last .1 .0) ≡ 64
-  as-many = length-words _ (replicate 64 0) _ refl (l .load .ensures .1)
+  as-many : length (l .load .last .1 .0) ≡ 256
+  as-many = length-words _ (replicate 256 0) _ refl (l .load .ensures .1)
 
 module _ (n : tie.After-number) where
   small : n .number .result < 10

@@ -32,17 +32,17 @@ module _ (c : tie.After-show-view) where
   as-long = c .show-view .ensures .0 ∙ sym (length-view (observes (begun .args .reader)) (begun .args .steps) (finished (begun .args .finish) (slots (begun .args .store .now))))
 
   -- it fits: the array is as long as the longest view
-  written : array ≡ over view (replicate 9278 0)
+  written : array ≡ over view (replicate 33998 0)
   unfolding shownIn
   written =
       c .show-view .ensures .1
-      ∙ rw (le-leb (length view) (length {A = ℕ} (replicate 9278 0)) (let e = length-replicate {A = ℕ} 9278 0 in omega (arith, as-long, c .show-view .ensures .0, view-most (observes (begun .args .reader)) (begun .args .store .now))))
+      ∙ rw (le-leb (length view) (length {A = ℕ} (replicate 33998 0)) (let e = length-replicate {A = ℕ} 33998 0 in omega (arith, as-long, c .show-view .ensures .0, view-most (observes (begun .args .reader)) (begun .args .store .now))))
 
   held : take (c .show-view .result) array ≡ view
-  held = taken-back view (replicate 9278 0) as-long written
+  held = taken-back view (replicate 33998 0) as-long written
 
   fits : c .show-view .result ≤ length array
-  fits = written-within view (replicate 9278 0) as-long written
+  fits = written-within view (replicate 33998 0) as-long written
 
 write-line-requires : tie.Need-write-line-requires
 write-line-requires c κs = let w : tie.After-show-view = search in rw (held w) (begun w .pre .1)

@@ -1,6 +1,6 @@
 -- `file_sections::read_labels` meets its contract: what is left of the section makes the rest of the words. Assumes nothing.
 use mathlib.Core.List.{List, []}
-use mathlib.Core.Path.{_≡_, sym, ap, _∙_}
+use mathlib.Core.Path.{_≡_, refl, sym, ap, ap₂, _∙_}
 use Prim.Native.Nat.{ℕ, suc, _+_, _-_, _≤_, _<_}
 use native.Mathlib.Omega.{arith}
 use lib.ListN.{length, drop, length-drop, drop-of-length-le}
@@ -9,16 +9,18 @@ use borrow.Rule.Slice.PartAt.{part-to-end}
 use Rattle.labels.specs.declared.Label.{Label}
 use Rattle.label_entries.specs.Entries.{readEntry}
 use Rattle.label_entries.specs.declared.Entry.the-variants.{Read}
+use Rattle.model.specs.Words.{fileWords}
 use Rattle.file_sections.specs.Sections.{readLabels}
-use Rattle.file_sections.specs.Words.{labelWords, tableOf}
-use Rattle.file_sections.proofs.Labels.{putLabel, tableFrom, table-start, entry-read, entry-malformed, labels-end, bytes-left}
+use Rattle.file_sections.specs.Words.{labelWords, labelsFound}
+use Rattle.file_sections.proofs.Labels.{labelsWith, table-start, entry-read, entry-malformed, labels-end, bytes-left}
 use Rattle.label_entries.proofs.RoundTrip.{read-within}
 use borrow.Author.Needs.{needs}
 use Rattle.file_sections.proofs.read_labels.Statement.{statement}
 use Rattle.file_sections.proofs.read_labels.Tie as tie
 
 abbrev Inv-loop : tie.InvT-loop
-Inv-loop bytes count words₀ at₀ i₀ words at i = (i ≤ count) × (at ≤ length bytes) × (tableOf (readLabels count bytes) ≡ tableFrom i words (readLabels (count - i) (drop at bytes)))
+Inv-loop bytes count words₀ at₀ i₀ words at i =
+    (i ≤ count) × (at ≤ length bytes) × (labelsFound (readLabels count bytes) ≡ labelsWith i words (readLabels (count - i) (drop at bytes))) × (length words ≡ fileWords)
 
 abbrev μ-loop : tie.MeasureT-loop
 μ-loop bytes count words₀ at₀ i₀ words at i = count - i
@@ -53,8 +55,8 @@ module _ (h : Head) where
   rest = drop at bs
 
   -- the entries that are left make the rest of the words
-  left : (k : ℕ) → n - i ≡ k → tableOf (readLabels n bs) ≡ tableFrom i ws (readLabels k rest)
-  left k e = h .loop .inv .2 ∙ ap (λ (j : ℕ). tableFrom i ws (readLabels j rest)) e
+  left : (k : ℕ) → n - i ≡ k → labelsFound (readLabels n bs) ≡ labelsWith i ws (readLabels k rest)
+  left k e = h .loop .inv .2 ∙ ap (λ (j : ℕ). labelsWith i ws (readLabels j rest)) e
 
   abbrev behind : ℕ
   behind = n - (i + 1)
@@ -69,7 +71,7 @@ module _ (p : In) where
   few : i head + 1 ≤ 32
   few = omega (arith, small, begun head .pre)
 
-  here : tableOf (readLabels (n head) (bs head)) ≡ tableFrom (i head) (ws head) (readLabels (suc (behind head)) (rest head))
+  here : labelsFound (readLabels (n head) (bs head)) ≡ labelsWith (i head) (ws head) (readLabels (suc (behind head)) (rest head))
   here = left head (suc (behind head)) (omega (arith, small))
 
 entry : (r : tie.After-read-entry Inv-loop μ-loop) → readEntry (rest (search)) ≡ r .read-entry .result
@@ -98,7 +100,7 @@ loop-holds c =
     let bs = b .args .bytes .now in
     let n = b .args .count in
     let whole : n - 0 ≡ n = omega arith in
-    (omega arith, omega arith, table-start (readLabels n bs) ∙ ap (λ (k : ℕ). tableFrom 0 (labelWords []) (readLabels k bs)) (sym whole))
+    (omega arith, omega arith, table-start (readLabels n bs) ∙ ap (λ (k : ℕ). labelsWith 0 (labelWords []) (readLabels k bs)) (sym whole), refl)
 
 malformed : tie.Need-returns Inv-loop μ-loop
 malformed c =
@@ -108,13 +110,15 @@ malformed c =
 
 loop-again : tie.Need-loop-again Inv-loop μ-loop
 loop-again c =
+    let p : tie.After-put-label Inv-loop μ-loop = search in
     let l : tie.After-l Inv-loop μ-loop = search in
     let h : Head = search in (
       small (search),
       within l,
       here (search)
           ∙ entry-read (i h) (ws h) (behind h) (rest h) (label l) (size l) (is-label l)
-          ∙ ap (λ (r : List ℕ). tableFrom (i h + 1) (putLabel (i h) (label l) (ws h)) (readLabels (behind h) r)) (drop-drop (size l) (at h) (bs h)),
+          ∙ ap₂ (λ (us r : List ℕ). labelsWith (i h + 1) us (readLabels (behind h) r)) (sym (p .put-label .ensures)) (drop-drop (size l) (at h) (bs h)),
+      p .put-label .kept .1 .0 ∙ h .loop .inv .3,
     )
 
 all-read : tie.Need-returns-2 Inv-loop μ-loop
@@ -147,13 +151,9 @@ read-labels-spec =
     (λ c. search needs)
     (λ c κs. search needs)
     malformed
+    (search needs)
     (λ c. omega (arith, few (search)))
-    (λ c. omega (arith, few (search)))
-    (λ c. omega (arith, few (search)))
-    (λ c. omega (arith, few (search)))
-    (λ c. omega (arith, few (search)))
-    (λ c. omega (arith, few (search)))
-    (λ c. omega (arith, few (search)))
+    (λ c κs. let h : Head = search in omega (arith, few (search), h .loop .inv .3))
     (λ c. let h : Head = search in omega (arith, within (search), begun h .good))
     (λ c. omega (arith, few (search)))
     (λ c. omega (arith, small (search)))

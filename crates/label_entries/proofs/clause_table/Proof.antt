@@ -1,55 +1,36 @@
--- `label_entries::clause_table` meets its contract. The loop's invariant: `t` is the table of the members below `p`. Assumes nothing.
-use mathlib.Core.Path.{_≡_, sym, _∙_}
+-- `label_entries::clause_table` meets its contract. Assumes nothing.
 use mathlib.Core.List.{[], _∷_}
-use mathlib.Core.Logic.{⊎-elim}
-use Prim.Native.Nat.{_≤_, _-_, _%_, _^_}
+use mathlib.Core.Path.{_≡_}
+use Prim.Native.Nat.{ℕ, _<_}
 use native.Mathlib.Omega.{arith}
-use borrow.Author.Needs.{needs}
 use Rattle.formulas.specs.Formula.{table}
-use Rattle.label_entries.proofs.Words.{clause-with, clause-without, single-table, no-member, clause-whole}
+use borrow.Author.Needs.{needs}
 use Rattle.label_entries.proofs.clause_table.Statement.{statement}
 use Rattle.label_entries.proofs.clause_table.Tie as tie
 
-abbrev Inv-loop : tie.InvT-loop
-Inv-loop mask t₀ p₀ t p = (p ≤ 6) × (t ≡ table 6 (mask % 2 ^ p ∷ []))
+-- the word of the first six is known
+for-word : (f : tie.After-first-six) {k : ℕ} → k < 4 → (k < 4) × (f .first-six .result ≡ table 6 (f .before .args .mask ∷ []))
+for-word f h = (h, f .first-six .ensures)
 
-abbrev μ-loop : tie.MeasureT-loop
-μ-loop mask t₀ p₀ t p = 6 - p
-
-abbrev Head : Type 0
-Head = tie.At-loop Inv-loop μ-loop
-
-loop-holds : tie.Need-loop-holds Inv-loop μ-loop
-loop-holds c = (omega arith, no-member (c .args .mask))
-
-loop-again : tie.Need-loop-again Inv-loop μ-loop
-loop-again c =
-    let h : tie.After-has Inv-loop μ-loop = search in
-    let i : tie.In-loop Inv-loop μ-loop = search in
-    let l : Head = search in
-    let b : tie.Start Inv-loop μ-loop = search in
-    let p = l .loop .p in (
-      omega (arith, i .loop-test .taken),
-      ⊎-elim
-          (λ w. w .1 ∙ clause-with 6 (b .args .mask) p _ (l .loop .inv .1) _ (single-table p (omega (arith, i .loop-test .taken))) (sym (h .has .ensures) ∙ w .0 .taken))
-          (λ w. w .1 ∙ clause-without 6 (b .args .mask) p _ (l .loop .inv .1) (sym (h .has .ensures) ∙ w .0 .left))
-          (c .if1 .came),
-    )
-
-returns : tie.Need-returns Inv-loop μ-loop
-returns c = let l : Head = search in l .loop .inv .1 ∙ clause-whole _ _ (omega (arith, l .loop .inv .0, c .loop-test .left))
+returns : tie.Need-returns
+returns c =
+    let w2 : tie.After-clause-word3 = search in
+    let w1 : tie.After-clause-word2 = search in
+    let w0 : tie.After-clause-word = search in
+    λ k. record {
+      word0 = w0 .clause-word .ensures k;
+      word1 = w1 .clause-word2 .ensures k;
+      word2 = w2 .clause-word3 .ensures k;
+      word3 = c .clause-word4 .ensures k;
+    }
 
 pub clause-table-spec : {M : Type 1} → statement M
 clause-table-spec =
     tie.close
     (tie.spec
-    Inv-loop
-    μ-loop
-    loop-holds
-    (search needs)
-    (search needs)
-    (search needs)
-    (search needs)
-    (search needs)
-    loop-again
+    (λ c κs. search needs)
+    (λ c κs. for-word (search) (omega arith))
+    (λ c κs. for-word (search) (omega arith))
+    (λ c κs. for-word (search) (omega arith))
+    (λ c κs. for-word (search) (omega arith))
     returns)

@@ -4,15 +4,16 @@ use mathlib.Core.Logic.{⊎-elim}
 use Prim.Native.Nat.{_-_}
 use native.Mathlib.Omega.{arith}
 use borrow.Author.Needs.{needs}
+use Rattle.labels.specs.Tables.{whole}
 use Rattle.label_entries.proofs.Listing.{Counting, count-start, count-on, count-one, count-end}
 use Rattle.label_entries.proofs.count_clauses.Statement.{statement}
 use Rattle.label_entries.proofs.count_clauses.Tie as tie
 
 abbrev Inv-loop : tie.InvT-loop
-Inv-loop t n₀ c₀ n c = Counting t n c
+Inv-loop t n₀ c₀ n c = Counting (whole t) n c
 
 abbrev μ-loop : tie.MeasureT-loop
-μ-loop t n₀ c₀ n c = 64 - c
+μ-loop t n₀ c₀ n c = 256 - c
 
 abbrev Head : Type 0
 Head = tie.At-loop Inv-loop μ-loop
@@ -24,8 +25,8 @@ loop-again c =
     let h : Head = search in
     let b : tie.Start Inv-loop μ-loop = search in
     ⊎-elim
-    (λ w. rw (w .1) (count-one (b .args .t) (h .loop .n) (h .loop .c) (h .loop .inv) (i .loop-test .taken) (sym (f .maximal-false .ensures) ∙ w .0 .taken)))
-    (λ w. rw (w .1) (count-on (b .args .t) (h .loop .n) (h .loop .c) (h .loop .inv) (i .loop-test .taken) (sym (f .maximal-false .ensures) ∙ w .0 .left)))
+    (λ w. rw (w .1) (count-one (whole (b .args .t)) (h .loop .n) (h .loop .c) (h .loop .inv) (i .loop-test .taken) (sym (f .maximal-false .ensures) ∙ w .0 .taken)))
+    (λ w. rw (w .1) (count-on (whole (b .args .t)) (h .loop .n) (h .loop .c) (h .loop .inv) (i .loop-test .taken) (sym (f .maximal-false .ensures) ∙ w .0 .left)))
     (c .if1 .came)
 
 returns : tie.Need-returns Inv-loop μ-loop
@@ -37,7 +38,8 @@ count-clauses-spec =
     (tie.spec
     Inv-loop
     μ-loop
-    (λ c. count-start (c .args .t))
+    (λ c. count-start (whole (c .args .t)))
+    (search needs)
     (search needs)
     (search needs)
     (search needs)

@@ -5,16 +5,17 @@ use native.Mathlib.Omega.{arith}
 use borrow.Author.Needs.{needs}
 use borrow.Author.Tests.{not-true, not-false}
 use lib.Dec.{T}
+use Rattle.labels.specs.Tables.{principals, whole}
 use Rattle.formulas.specs.Normal.{allBelow, passesWith}
 use Rattle.label_entries.proofs.MaximalFalse.{maximal-in, maximal-stops, passes-next, maximal-is}
 use Rattle.label_entries.proofs.maximal_false.Statement.{statement}
 use Rattle.label_entries.proofs.maximal_false.Tie as tie
 
 abbrev Inv-loop : tie.InvT-loop
-Inv-loop t x p₀ p = (p ≤ 6) × T (allBelow p (passesWith t x))
+Inv-loop t x p₀ p = (p ≤ principals) × T (allBelow p (passesWith (whole t) x))
 
 abbrev μ-loop : tie.MeasureT-loop
-μ-loop t x p₀ p = 6 - p
+μ-loop t x p₀ p = principals - p
 
 abbrev Head : Type 0
 Head = tie.At-loop Inv-loop μ-loop
@@ -28,13 +29,13 @@ module _ (h : Head) where
   begun = search
 
   abbrev t : ℕ
-  t = begun .args .t
+  t = whole (begun .args .t)
 
   abbrev x : ℕ
   x = begun .args .x
 
 in-table : tie.Need-returns Inv-loop μ-loop
-in-table c = let h : tie.After-has Inv-loop μ-loop = search in sym (maximal-in _ _ (sym (h .has .ensures) ∙ c .if1 .taken))
+in-table c = let h : tie.After-contains Inv-loop μ-loop = search in sym (maximal-in _ _ (sym (h .contains .ensures) ∙ c .if1 .taken))
 
 not-maximal : tie.Need-returns-2 Inv-loop μ-loop
 not-maximal c =
@@ -53,8 +54,8 @@ is-maximal : tie.Need-returns-3 Inv-loop μ-loop
 is-maximal c =
     let h : Head = search in
     let e : tie.Else1 Inv-loop μ-loop = search in
-    let f : tie.After-has Inv-loop μ-loop = search in
-    sym (maximal-is (t h) (x h) (h .loop .p) (omega (arith, h .loop .inv .0, c .loop-test .left)) (h .loop .inv .1) (sym (f .has .ensures) ∙ e .if1 .left))
+    let f : tie.After-contains Inv-loop μ-loop = search in
+    sym (maximal-is (t h) (x h) (h .loop .p) (omega (arith, h .loop .inv .0, c .loop-test .left)) (h .loop .inv .1) (sym (f .contains .ensures) ∙ e .if1 .left))
 
 pub maximal-false-spec : {M : Type 1} → statement M
 maximal-false-spec =

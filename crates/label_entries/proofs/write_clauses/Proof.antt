@@ -4,15 +4,16 @@ use mathlib.Core.Logic.{⊎-elim}
 use Prim.Native.Nat.{ℕ, _<_, _-_}
 use native.Mathlib.Omega.{arith}
 use borrow.Author.Needs.{needs}
+use Rattle.labels.specs.Tables.{whole}
 use Rattle.label_entries.proofs.Listing.{Writing, write-start, has-room, write-on, write-one, write-end}
 use Rattle.label_entries.proofs.write_clauses.Statement.{statement}
 use Rattle.label_entries.proofs.write_clauses.Tie as tie
 
 abbrev Inv-loop : tie.InvT-loop
-Inv-loop t out₀ n₀ mask₀ out n mask = Writing t out n mask
+Inv-loop t out₀ n₀ mask₀ out n mask = Writing (whole t) out n mask
 
 abbrev μ-loop : tie.MeasureT-loop
-μ-loop t out₀ n₀ mask₀ out n mask = 64 - mask
+μ-loop t out₀ n₀ mask₀ out n mask = 256 - mask
 
 abbrev Head : Type 0
 Head = tie.At-loop Inv-loop μ-loop
@@ -26,9 +27,9 @@ module _ (f : Tested) where
   head = search
 
   abbrev t : ℕ
-  t = let b : tie.Start Inv-loop μ-loop = search in b .args .t
+  t = let b : tie.Start Inv-loop μ-loop = search in whole (b .args .t)
 
-  inside : head .loop .mask < 64
+  inside : head .loop .mask < 256
   inside = let i : tie.In-loop Inv-loop μ-loop = search in omega (arith, i .loop-test .taken)
 
 slice-write-out : tie.Need-slice-write-out Inv-loop μ-loop
@@ -59,6 +60,7 @@ write-clauses-spec =
     Inv-loop
     μ-loop
     (λ c. let b : tie.Start Inv-loop μ-loop = search in write-start _ _ (b .pre))
+    (search needs)
     (search needs)
     (search needs)
     (search needs)

@@ -5,6 +5,7 @@ use mathlib.Core.Path.{_∙_}
 use Prim.Native.Nat.{ℕ, _≤_}
 use native.Mathlib.Omega.{arith}
 use lib.ListN.{length-set}
+use Rattle.labels.specs.Tables.{whole}
 use Rattle.labels.specs.declared.Label.{Label}
 use Rattle.label_entries.proofs.Listing.{clauses-short}
 use Rattle.label_entries.proofs.Writing.{short-answer, short-buffer, whole-answer, whole-buffer}
@@ -27,11 +28,11 @@ module _ (c : tie.After-count-clauses2) where
   abbrev out : List ℕ
   out = begun .args .out .now
 
-  few-secrecy : first .count-clauses .result ≤ 64
-  few-secrecy = omega (arith, first .count-clauses .ensures, clauses-short (l .secrecy))
+  few-secrecy : first .count-clauses .result ≤ 255
+  few-secrecy = omega (arith, first .count-clauses .ensures, clauses-short (whole (l .secrecy)))
 
-  few-integrity : c .count-clauses2 .result ≤ 64
-  few-integrity = omega (arith, c .count-clauses2 .ensures, clauses-short (l .integrity))
+  few-integrity : c .count-clauses2 .result ≤ 255
+  few-integrity = omega (arith, c .count-clauses2 .ensures, clauses-short (whole (l .integrity)))
 
 -- a count fits a byte, and the entry's length a word
 add-a : tie.Need-add-a

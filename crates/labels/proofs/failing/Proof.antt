@@ -1,19 +1,14 @@
 -- `labels::failing` meets its contract. Assumes nothing.
-use native.Mathlib.Omega.{arith}
-use borrow.Author.Tests.{eq-eqb, ne-eqb}
-use Rattle.formulas.proofs.Implication.{implies-test}
+use borrow.Author.Needs.{needs}
+use mathlib.Core.Path.{sym, _∙_}
 use Rattle.labels.proofs.failing.Statement.{statement}
 use Rattle.labels.proofs.failing.Tie as tie
 
 holds : tie.Need-returns
-holds c =
-    let s : tie.Start = search in
-    rw (← implies-test 64 (s .args .a) (s .args .b) (omega arith) (omega arith), eq-eqb _ 0 (c .if1 .taken))
+holds c = let i : tie.After-implies = search in rw (sym (i .implies .ensures) ∙ c .if1 .taken)
 
 fails : tie.Need-returns-2
-fails c =
-    let s : tie.Start = search in
-    rw (← implies-test 64 (s .args .a) (s .args .b) (omega arith) (omega arith), ne-eqb _ 0 (c .if1 .left))
+fails c = let i : tie.After-implies = search in rw (sym (i .implies .ensures) ∙ c .if1 .left)
 
 pub failing-spec : {M : Type 1} → statement M
-failing-spec = tie.close (tie.spec holds fails)
+failing-spec = tie.close (tie.spec (λ c κs. search needs) holds fails)

@@ -1,7 +1,7 @@
 -- `labels::flow_test` meets its contract. Assumes nothing.
 use native.Mathlib.Omega.{arith}
 use borrow.Author.Needs.{needs}
-use Rattle.formulas.specs.Formula.{implies}
+use Rattle.labels.specs.Tables.{tableImplies}
 use Rattle.labels.specs.Order.{flowTest}
 use Rattle.labels.proofs.Halves.{at-most-3}
 use Rattle.labels.proofs.flow_test.Statement.{statement}
@@ -13,7 +13,7 @@ fits c =
     let f : tie.After-failing = search in
     let s : tie.Start = search in
     rw (f .failing .ensures, c .failing2 .ensures)
-    (omega (arith, at-most-3 (implies (s .args .b .secrecy) (s .args .a .secrecy)) (implies (s .args .a .integrity) (s .args .b .integrity))))
+    (omega (arith, at-most-3 (tableImplies (s .args .b .secrecy) (s .args .a .secrecy)) (tableImplies (s .args .a .integrity) (s .args .b .integrity))))
 
 returns : tie.Need-returns
 unfolding flowTest

@@ -45,11 +45,11 @@ module _ (c : Turn) where
   abbrev fields : List ℕ
   fields = spaced recordFieldWidths rest
 
-  here : spaced (widths (begun .args .count - top .loop .i)) rest ≡ fields ++ spaced (widths k) (drop 36 rest)
+  here : spaced (widths (begun .args .count - top .loop .i)) rest ≡ fields ++ spaced (widths k) (drop 132 rest)
   here = record-here rest (begun .args .count - top .loop .i) k (omega arith)
 
   room : top .loop .at + length fields ≤ length (begun .args .out .now)
-  room = room-next (top .loop .inv .1) (begun .pre) fields (spaced (widths k) (drop 36 rest)) here refl
+  room = room-next (top .loop .inv .1) (begun .pre) fields (spaced (widths k) (drop 132 rest)) here refl
 
 loop-holds : tie.Need-loop-holds Inv-loop μ-loop
 loop-holds c =
@@ -58,7 +58,7 @@ loop-holds c =
 
 write-fields-requires : tie.Need-write-fields-requires Inv-loop μ-loop
 unfolding recordFieldWidths
-write-fields-requires c κs = let t : Turn = search in room-for-next (top t .loop .inv .1) (begun t .pre) (fields t) (spaced (widths (k t)) (drop 36 (rest t))) (here t)
+write-fields-requires c κs = let t : Turn = search in room-for-next (top t .loop .inv .1) (begun t .pre) (fields t) (spaced (widths (k t)) (drop 132 (rest t))) (here t)
 
 add-at : tie.Need-add-at Inv-loop μ-loop
 unfolding recordFieldWidths

@@ -7,8 +7,8 @@ use Rattle.monitor.proofs.read.Statement.{statement}
 use Rattle.monitor.proofs.read.Tie as tie
 
 module _ (l : tie.After-load) where
-  as-many : length (l .load .last .1 .0) ≡ 64
-  as-many = length-words _ (replicate 64 0) _ refl (l .load .ensures .1)
+  as-many : length (l .load .last .1 .0) ≡ 256
+  as-many = length-words _ (replicate 256 0) _ refl (l .load .ensures .1)
 
 read-loaded-requires : tie.Need-read-loaded-requires
 read-loaded-requires c κs =

@@ -8,8 +8,8 @@ use Rattle.monitor.proofs.read_day.Statement.{statement}
 use Rattle.monitor.proofs.read_day.Tie as tie
 
 module _ (l : tie.After-load-day) where
-  as-many : length (l .load-day .last .1 .0) ≡ 64
-  as-many = words-lent _ (replicate 64 0) _ refl (l .load-day .ensures .1)
+  as-many : length (l .load-day .last .1 .0) ≡ 256
+  as-many = words-lent _ (replicate 256 0) _ refl (l .load-day .ensures .1)
 
 read-loaded-requires : tie.Need-read-loaded-requires
 read-loaded-requires c κs =

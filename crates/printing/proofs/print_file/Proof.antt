@@ -10,8 +10,8 @@ use Rattle.printing.proofs.print_file.Statement.{statement}
 use Rattle.printing.proofs.print_file.Tie as tie
 
 -- by the lemma, since counting so many zeros takes the checker long
-long : 651552 ≡ length {A = ℕ} (replicate 651552 0)
-long = sym (length-replicate {A = ℕ} 651552 0)
+long : 2233632 ≡ length {A = ℕ} (replicate 2233632 0)
+long = sym (length-replicate {A = ℕ} 2233632 0)
 
 -- what was written lies within the buffer
 within : (w : tie.After-write-printed) → w .write-printed .result ≤ length (w .write-printed .last .1 .0)

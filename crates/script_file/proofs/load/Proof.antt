@@ -6,10 +6,11 @@ use native.Mathlib.Omega.{arith}
 use lib.ListN.{length, drop, length-drop}
 use borrow.Author.Tests.{not-true, not-false}
 use borrow.Rule.Slice.PartAt.{part-to-end}
-use Rattle.script_file.specs.Checks.{passes1, passes2, passes3, passes4, passes5, passes6, passes7, refusal}
+use Rattle.script_file.specs.Checks.{passes1, passes2, passes3, passes4, passes5, passes6, passes7, refusal, refusalOver}
 use Rattle.script_file.specs.Sections.{header, fileLabels}
-use Rattle.file_sections.specs.Words.{tableOf}
-use Rattle.file_sections.specs.declared.Table.{Table}
+use Rattle.file_sections.specs.Words.{labelsFound}
+use Rattle.file_sections.proofs.Labels.{length-found}
+use Rattle.file_sections.specs.declared.FileLabels.{FileLabels}
 use Rattle.script_file.specs.declared.Header.{Header}
 use Rattle.script_file.specs.declared.Loaded.the-variants.{File}
 use Rattle.script_file.proofs.Tests.{Comes, past, stopped}
@@ -28,7 +29,7 @@ abbrev Behind : ℕ → List ℕ → Type 0
 Behind n bs = Comes (suc n) (drop n (checks bs)) (refusal bs)
 
 start : (bs : List ℕ) → Behind 0 bs
-unfolding refusal
+unfolding refusalOver
 start bs = record { to = refl }
 
 -- ── the header, and what each check finds ──
@@ -73,7 +74,7 @@ passed3 e = past (check3 (search) ∙ not-false _ (e .if3 .left)) (passed2 (sear
 placing : (e : tie.Else3) → Placed (head (search)) (length (bs (search)))
 placing e = let a : tie.After-offsets-ok = search in placed _ _ (sym (a .offsets-ok .ensures) ∙ not-false _ (e .if3 .left))
 
-table : (l : tie.After-read-labels) → l .read-labels .result ≡ tableOf (fileLabels (bs (search)))
+table : (l : tie.After-read-labels) → l .read-labels .result ≡ labelsFound (fileLabels (bs (search)))
 table l = let h : tie.After-read-header = search in file-table (bs h) (head h) (is-head h) _ (l .read-labels .ensures)
 
 check4 : (l : tie.After-read-labels) → passes4 (bs (search)) ≡ l .read-labels .result .whole
@@ -124,6 +125,9 @@ read-labels-requires c κs = counts (search) .labels
 labels-refused : tie.Need-returns-4
 labels-refused c = let h : tie.After-read-header = search in refuses (bs h) (ws h) 3 (stopped (check4 (search) ∙ not-true _ (c .if4 .taken)) (passed3 (search)))
 
+start-ok-requires : tie.Need-start-ok-requires
+start-ok-requires c κs = let l : tie.After-read-labels = search in length-found (fileLabels (bs (search))) _ (table l)
+
 start-refused : tie.Need-returns-5
 start-refused c = let h : tie.After-read-header = search in refuses (bs h) (ws h) 4 (stopped (check5 (search) ∙ not-true _ (c .if5 .taken)) (passed4 (search)))
 
@@ -135,9 +139,10 @@ records-refused c = let h : tie.After-read-header = search in refuses (bs h) (ws
 
 code-ok-requires : tie.Need-code-ok-requires
 code-ok-requires c κs =
+    let e : tie.Else3 = search in
     let h : tie.After-read-header = search in
     let n = counts (search) in
-    let z = placing (search) in
+    let z = placing e in
     let part = ap length (part-to-end (bs h) (head h .code .offset)) ∙ length-drop (head h .code .offset) (bs h) in
     omega (arith, n .code, z .code, z .whole, part)
 
@@ -148,7 +153,7 @@ file-loaded : tie.Need-returns-8
 file-loaded c =
     let h : tie.After-read-header = search in
     let q = loads (bs h) (ws h) (sym (past (check7 (search) ∙ not-false _ (c .if7 .left)) (passed6 (search)) .to)) in
-    (ap File (is-head h) ∙ q .0, ap (λ (t : Table). t .words) (table (search)) ∙ q .1)
+    (ap File (is-head h) ∙ q .0, ap (λ (t : FileLabels). t .words) (table (search)) ∙ q .1)
 
 pub load-spec : {M : Type 1} → statement M
 load-spec =
@@ -166,7 +171,8 @@ load-spec =
     part-read-labels-end
     read-labels-requires
     labels-refused
-    (search needs)
+    (λ c. search needs)
+    start-ok-requires
     start-refused
     (λ c. let z = placing (search) in omega arith)
     (λ c. let z = placing (search) in omega arith)

@@ -8,9 +8,10 @@ use Rattle.store.proofs.datum_words.Tie as tie
 
 of-number : tie.Need-returns
 of-number c =
+    let t : tie.After-low-table = search in
     let f : tie.After-d = search in
     let h : f .d .given .0 .0 < 4294967296 = omega arith in
-    rw (f .d .given .1, mod-eq-of-lt h)
+    rw (f .d .given .1, t .low-table .ensures, mod-eq-of-lt h)
 
 of-label : tie.Need-returns-2
 of-label c = let f : tie.After-d2 = search in rw (f .d2 .given .1)
@@ -24,9 +25,11 @@ datum-words-spec =
     (tie.spec
     (search needs)
     (search needs)
+    (λ c κs. search needs)
+    (λ c κs. search needs)
     (search needs)
     (search needs)
-    (search needs)
+    (λ c κs. search needs)
     of-number
     of-label
     of-handle)

@@ -7,7 +7,7 @@ of-number : tie.Need-returns
 of-number c = let d : tie.After-d = search in rw (d .d .given .1)
 
 of-label : tie.Need-returns-2
-of-label c = let d : tie.After-d2 = search in rw (d .d2 .given .1)
+of-label c = let d : tie.After-d2 = search in rw (d .d2 .given .1, c .same-label .ensures)
 
 of-sealed : tie.Need-returns-3
 of-sealed c = let d : tie.After-d3 = search in rw (d .d3 .given .1, c .enum-told .given .1)
@@ -21,6 +21,7 @@ same-spec =
     (tie.spec
     (λ c. search needs)
     (λ c. search needs)
+    (λ c κs. search needs)
     (λ c. search needs)
     (λ c. search needs)
     (λ c. search needs)

@@ -42,8 +42,8 @@ module _ (b : tie.Start) where
   unfolding shownIn
   short h = sym (rw (lt-leb (length shown) (length out) (omega (arith, long))))
 
-  -- any buffer of 9,278 bytes holds the view
-  room : 9278 ≤ length out → viewLength R σ ≤ length out
+  -- any buffer of 33,998 bytes holds the view
+  room : 33998 ≤ length out → viewLength R σ ≤ length out
   room h = omega (arith, view-most R (b .args .store .now))
 
 long-buffer : tie.Need-returns

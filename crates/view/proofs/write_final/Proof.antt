@@ -1,5 +1,6 @@
 -- `view::write_final` meets its contract. Assumes nothing.
 use mathlib.Core.Path.{_∙_}
+use Rattle.labels.specs.Tables.{principals}
 use Rattle.view_fields.specs.Fields.{labelField}
 use Rattle.view_fields.specs.Writing.{tripleField}
 use Rattle.view_fields.proofs.Buffers.{three}
@@ -21,8 +22,8 @@ end-written c =
     let a = begun .args in
     let f = a .finish in
     let r = result .of-ending .result in
-    three (tripleField r) (labelField (f .label)) (labelField (f .clearance)) (a .out .now)
-    (length-triple r) (length-label (f .label)) (length-label (f .clearance)) (begun .pre)
+    three (tripleField r) (labelField principals (f .label)) (labelField principals (f .clearance)) (a .out .now)
+    (length-triple r) (length-label principals (f .label)) (length-label principals (f .clearance)) (begun .pre)
     (first .write-value .ensures) (second .write-label .ensures) (third .write-label2 .ensures)
     ∙ final-written (a .reader) f (a .out .now) (flow .flows .ensures) (test .if1 .taken) r (result .of-ending .ensures)
 

@@ -61,11 +61,11 @@ module _ (c : Record) where
   abbrev s : Seen
   s = search
 
-  room : 36 * top s .loop .n + 36 ≤ length (begun s .args .out .now)
+  room : 132 * top s .loop .n + 132 ≤ length (begun s .args .out .now)
   room = room-here _ _ (top s .loop .inv) (below s) _ (seen s ∙ c .r .given .1)
 
 -- the next record starts within the buffer
-started : (l : Head) → 36 * l .loop .n ≤ length (l .loop .out)
+started : (l : Head) → 132 * l .loop .n ≤ length (l .loop .out)
 started l = l .loop .inv .writing .room
 
 loop-holds : tie.Need-loop-holds Inv-loop μ-loop
@@ -75,7 +75,7 @@ load-requires : tie.Need-load-requires Inv-loop μ-loop
 load-requires c κs = let b : Start = search in b .pre .0
 
 write-record-requires : tie.Need-write-record-requires Inv-loop μ-loop
-write-record-requires c κs = let r : Record = search in room-for (top (s r) .loop .inv .writing) 36 (room r)
+write-record-requires c κs = let r : Record = search in room-for (top (s r) .loop .inv .writing) 132 (room r)
 
 loop-again : tie.Need-loop-again Inv-loop μ-loop
 loop-again c =

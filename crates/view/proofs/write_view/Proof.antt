@@ -5,10 +5,11 @@ use mathlib.Core.List.{List, _++_, append-assoc}
 use native.Mathlib.Omega.{arith}
 use Prim.Native.Nat.{ℕ, _+_, _*_, _≤_}
 use lib.ListN.{length, length-take, length-drop}
+use Rattle.labels.specs.Tables.{principals}
 use Rattle.labels.specs.declared.Label.{Label}
 use Rattle.model.specs.State.{Store}
 use Rattle.store.specs.Slots.{slots}
-use Rattle.view.specs.Layout.{recordFields, recordsShown, counts, final, viewLength, view}
+use Rattle.view.specs.Layout.{recordFields, recordsShown, counts, final, viewLength, view, lengthOver}
 use Rattle.view_fields.specs.Writing.{over, numbers}
 use Rattle.view.specs.Writing.{closing, finished, observes as reading}
 use Rattle.model.specs.declared.Finished.{Finished}
@@ -37,13 +38,13 @@ module _ (b : tie.Start) where
   front = counts R (b .args .steps) (f .ending) (closing f)
 
   abbrev closes : List ℕ
-  closes = final R (f .ending) (closing f)
+  closes = final principals R (f .ending) (closing f)
 
   abbrev records : List ℕ
-  records = recordFields R 0 σ
+  records = recordFields principals R 0 σ
 
-  room : 62 + 36 * recordsShown R σ ≤ length out
-  unfolding viewLength
+  room : 206 + 132 * recordsShown R σ ≤ length out
+  unfolding lengthOver
   room = b .pre .1
 
 -- the records are written, and counted
@@ -55,29 +56,29 @@ module _ (c : tie.After-write-records) where
   n = c .write-records .result
 
   abbrev middle : List ℕ
-  middle = numbers n 62 (62 + 36 * n)
+  middle = numbers n 206 (206 + 132 * n)
 
-  long : 62 + 36 * n ≡ viewLength (R begun) (σ begun)
-  unfolding viewLength
-  long = ap (λ (k : ℕ). 62 + 36 * k) (c .write-records .ensures .1)
+  long : 206 + 132 * n ≡ viewLength (R begun) (σ begun)
+  unfolding lengthOver
+  long = ap (λ (k : ℕ). 206 + 132 * k) (c .write-records .ensures .1)
 
   whole : view (R begun) (begun .args .steps) (finished (f begun) (σ begun)) ≡ (front begun ++ (middle ++ closes begun)) ++ records begun
   whole =
       view-parts (R begun) (begun .args .steps) (finished (f begun) (σ begun))
-      ∙ ap₂ (λ (k l : ℕ). front begun ++ (numbers k 62 l ++ (closes begun ++ records begun))) (sym (c .write-records .ensures .1)) (sym long)
+      ∙ ap₂ (λ (k l : ℕ). front begun ++ (numbers k 206 l ++ (closes begun ++ records begun))) (sym (c .write-records .ensures .1)) (sym long)
       ∙ simp append-assoc
 
-  front-length : length (front begun ++ (middle ++ closes begun)) ≡ 62
+  front-length : length (front begun ++ (middle ++ closes begun)) ≡ 206
   front-length =
-      length-two (front begun) (middle ++ closes begun) 6 56 (length-counts (R begun) (f begun .ending) (closing (f begun)) (begun .args .steps))
-      (length-two middle (closes begun) 6 50 (length-numbers n 62 (62 + 36 * n)) (length-final (R begun) (f begun .ending) (closing (f begun))))
+      length-two (front begun) (middle ++ closes begun) 6 200 (length-counts (R begun) (f begun .ending) (closing (f begun)) (begun .args .steps))
+      (length-two middle (closes begun) 6 194 (length-numbers n 206 (206 + 132 * n)) (length-final (R begun) (f begun .ending) (closing (f begun))))
 
   -- the buffer with the records alone
   abbrev behind : List ℕ
-  behind = back 62 (out begun) (c .write-records .last .1 .1 .0)
+  behind = back 206 (out begun) (c .write-records .last .1 .1 .0)
 
   as-long : length behind ≡ length (out begun)
-  as-long = length-back 62 (out begun) (c .write-records .last .1 .1 .0) (omega (arith, room begun)) (c .write-records .kept .1 .1 .0)
+  as-long = length-back 206 (out begun) (c .write-records .last .1 .1 .0) (omega (arith, room begun)) (c .write-records .kept .1 .1 .0)
 
 write-records-requires : tie.Need-write-records-requires
 write-records-requires c κs = let b : tie.Start = search in (b .pre .0, omega (arith, room b))
@@ -87,7 +88,7 @@ module _ (w : tie.After-write-counts) where
   abbrev recorded : tie.After-write-records
   recorded = search
 
-  counted : 62 ≤ length (w .write-counts .last .1 .1 .1 .0)
+  counted : 206 ≤ length (w .write-counts .last .1 .1 .1 .0)
   counted = omega (arith, w .write-counts .kept .1 .1 .1 .0, as-long recorded, room (begun recorded))
 
 -- and so once the numbers behind them are
@@ -104,7 +105,7 @@ module _ (w : tie.After-write-numbers) where
   both-as-long : length both ≡ length tested
   both-as-long = length-back 6 tested (w .write-numbers .last .1 .1 .1 .0) (omega (arith, counted after-counts)) (w .write-numbers .kept .1 .1 .1 .0)
 
-  numbered : 62 ≤ length both
+  numbered : 206 ≤ length both
   numbered = omega (arith, both-as-long, counted after-counts)
 
 -- and at the end
@@ -126,7 +127,7 @@ returns c =
     let b = begun r in (
       long r,
       three (front b) (middle r) (closes b) (behind r)
-          (length-counts (R b) (f b .ending) (closing (f b)) (b .args .steps)) (length-numbers (n r) 62 (62 + 36 * n r)) (length-final (R b) (f b .ending) (closing (f b)))
+          (length-counts (R b) (f b .ending) (closing (f b)) (b .args .steps)) (length-numbers (n r) 206 (206 + 132 * n r)) (length-final (R b) (f b .ending) (closing (f b)))
           (omega (arith, as-long r, room b)) (first .write-counts .ensures) (second .write-numbers .ensures) (last .write-final .ensures)
           ∙ before (front b ++ (middle r ++ closes b)) (records b) (out b) (front-length r) (omega (arith, room b)) (r .write-records .ensures .2)
           ∙ ap (λ (v : List ℕ). over v (out b)) (sym (whole r)),

@@ -2,6 +2,7 @@
 use mathlib.Core.Path.{refl, ap₂, _∙_}
 use mathlib.Core.List.{List, [], _∷_, _++_}
 use Prim.Native.Nat.{ℕ}
+use Rattle.labels.specs.Tables.{principals}
 use Rattle.view_fields.specs.Fields.{labelField, recordField}
 use Rattle.view_fields.specs.Writing.{over, tripleField}
 use Rattle.view_fields.proofs.Buffers.{three}
@@ -20,9 +21,9 @@ returns c =
     let kind : tie.After-kind-byte = search in
     let start : tie.Start = search in
     let a = start .args in
-    let l = labelField (a .r .label) in
+    let l = labelField principals (a .r .label) in
     let t = held .of-contents .result in
-    three (a .p ∷ kind .kind-byte .result ∷ []) l (tripleField t) (a .out .now) refl (length-label (a .r .label)) (length-triple t) (start .pre)
+    three (a .p ∷ kind .kind-byte .result ∷ []) l (tripleField t) (a .out .now) refl (length-label principals (a .r .label)) (length-triple t) (start .pre)
     (pair .write-pair .ensures) (label .write-label .ensures) (value .write-value .ensures)
     ∙ ap₂ (λ (k : ℕ) (v : List ℕ). over (a .p ∷ k ∷ (l ++ v)) (a .out .now)) (kind .kind-byte .ensures) (held .of-contents .ensures)
 
