@@ -31,22 +31,25 @@ pub struct Progress {
     pub status: Status,
 }
 
+// In this order, since a method that sets a field moves what lies behind it, and one that moves over 1 KB is not inlined into a
+// run that calls itself. The frames come before the stack, so that they are set where they lie. `limit` and `depth`, which no
+// run sets, lie between the arrays, or these are moved as one.
 pub struct State {
     pub locals: [Value; 16],
+    // The places left are those from `next` up to `limit`.
+    pub limit: usize,
+    // As the stack, the newest first.
+    pub frames: [Frame; 8],
+    // How many blocks the run is nested in.
+    pub depth: usize,
     // Grows downwards: the values are those from `top` on, the top one first.
     pub stack: [Value; 32],
     pub top: usize,
     pub newest: usize,
-    // As the stack, the newest first.
-    pub frames: [Frame; 8],
     pub label: Label,
     pub clearance: Label,
-    // The places left are those from `next` up to `limit`. Not side by side, or both are loaded at once and wait for their stores.
-    pub limit: usize,
     pub steps: usize,
     pub next: usize,
-    // How many blocks the run is nested in.
-    pub depth: usize,
     pub pc: usize,
     pub progress: Progress,
 }
@@ -356,21 +359,22 @@ impl State {
                 // afterwards. Its outcome is sealed under the bound in the first of its places, which are paid with
                 // its steps, and the record's handle takes the bound's place on the stack.
                 Effect::Block(t, n, places) => {
-                    let v = self.stack[first];
-                    let b = values::label_in(v);
                     let locals = self.locals;
                     let next = self.next;
                     let body = self.inside(n, places);
                     let done = run(t, locals, body, code, labels, records, store);
+                    let v = self.stack[first];
+                    let b = values::label_in(v);
                     let l = done.label;
                     let ending = done.ending;
                     effects::conclude(b, l, ending, next, store);
                     self = self.charge(n);
                     self.next = next + 1 + places;
                     let at = low - 1;
-                    self.stack[at] = Value {
+                    let outcome = Value {
                         datum: Datum::Handle(Kind::Sealed, next),
                     };
+                    self.stack[at] = outcome;
                     self.top = at;
                 }
             }
