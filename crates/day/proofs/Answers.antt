@@ -21,7 +21,7 @@ use Rattle.day_file.specs.Parts.{DayLoads}
 use Rattle.day_file.specs.declared.Loaded.the-variants.{Refused}
 use Rattle.day_file.proofs.Answers.{refused-number}
 use Rattle.day_jobs.specs.Running.{dayTurns}
-use Rattle.day.specs.Views.{turnViews, dayView, dayReading}
+use Rattle.day.specs.Views.{turnViews, dayView, dayViewOver, dayReading}
 use Rattle.day_jobs.proofs.Jobs.{labels-are}
 
 pub read-stopped : (bs : List ℕ) (i : ℕ) (b : List ℕ) (n : ℕ) → Refused n ≡ loadedDay bs → refuse n b ≡ dayReading bs i b
@@ -38,7 +38,7 @@ module _ (bs : List ℕ) (h : Header) (ws : List ℕ) (w : DayLoads bs h ws) (i 
   module _ (l : Label) (g : i < h .labels .count) (e : l ≡ labelIn ws i) where
     -- what label i is shown
     views-are : turnViews (observes l) (dayTurns bs) ≡ dayView bs i
-    unfolding dayView
+    unfolding dayViewOver
     views-are = rw (e, labels-are bs h ws w)
 
     pub read-short : leb (length (turnViews (observes l) (dayTurns bs))) (length b) ≡ false → refuse 9 b ≡ dayReading bs i b

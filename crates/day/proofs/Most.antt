@@ -18,9 +18,9 @@ use Rattle.day_file.specs.Checks.{dayRefusal}
 use Rattle.day_file.proofs.Tests.{AllJobs, all-map}
 use Rattle.day_file.proofs.Answers.{within-limits, jobs-fit}
 use Rattle.admission.specs.Admission.{dayAdmitted}
-use Rattle.day_jobs.specs.Running.{jobRun, storeAfter, turns, dayTurns}
+use Rattle.day_jobs.specs.Running.{jobRun, storeAfter, turns, turnsOver, dayTurns, dayTurnsOver}
 use Rattle.day_jobs.proofs.Between.{Free, count-inputs, start-free, after-free, job-below}
-use Rattle.day.specs.Views.{skippedView, turnView, eachTurn, turnViews}
+use Rattle.day.specs.Views.{skippedView, turnViewOver, eachTurn, turnViews}
 use Rattle.day.specs.Parts.{mostBytes}
 use Rattle.day.proofs.Views.{length-skipped}
 
@@ -53,7 +53,7 @@ module _ (bs : List ℕ) where
   pub views-most : (Reads : Label → Bool) (js : List Job) (ads : List Bool) (σ : Store)
       → AllJobs (λ j. (dayHeader bs .records .count ≤ j .places) × (j .places ≤ 256)) js → Free (dayHeader bs .records .count) σ
       → length (turnViews Reads (turns bs js ads σ)) ≤ mostBytes js
-  unfolding turns eachTurn turnView mostBytes
+  unfolding turnsOver eachTurn turnViewOver mostBytes
   views-most Reads [] ads σ fit f = omega arith
   views-most Reads (j ∷ js) [] σ fit f = omega arith
   views-most Reads (j ∷ js) (true ∷ ads) σ fit f =
@@ -67,7 +67,7 @@ module _ (bs : List ℕ) where
 
 -- of a day that is not refused
 pub day-most : (bs : List ℕ) → dayRefusal bs ≡ 0 → (Reads : Label → Bool) → length (turnViews Reads (dayTurns bs)) ≤ mostBytes (dayJobs bs)
-unfolding dayTurns
+unfolding dayTurnsOver
 day-most bs none Reads =
     views-most bs Reads (dayJobs bs) (dayAdmitted bs) (startStore (inputSlots (dayInputs bs)))
     (all-map (λ j f. (f .inputs-fit, f .places)) (dayJobs bs) (jobs-fit bs none))

@@ -12,7 +12,7 @@ use Rattle.view_fields.proofs.Buffers.{Writing, start, more, ends}
 use Rattle.day_file.specs.declared.Job.{Job}
 use Rattle.day_file.specs.Sections.{jobsFrom}
 use Rattle.admission.specs.Admission.{fits, leftAfter}
-use Rattle.day_jobs.specs.Running.{Turn, skipped, ran, jobRun, storeAfter, turns}
+use Rattle.day_jobs.specs.Running.{Turn, skipped, ran, jobRun, storeAfter, turns, turnsOver}
 use Rattle.day_jobs.proofs.Turns.{turnsFrom, turn-skipped, turn-ran, jobsLeft, job, all-left, next-job, none-left}
 use Rattle.day.specs.Views.{eachTurn}
 use Rattle.day.specs.Parts.{shownAt, mostBytes}
@@ -81,7 +81,7 @@ module _ (f : Turn → List ℕ) (bs : List ℕ) (at n : ℕ) where
         ∙ ap (eachTurn f) (turn-ran bs j (jobsLeft bs at n (k + 1)) left σ e)
 
   pub made-nothing : (k : ℕ) (left : ℕ → ℕ) (σ : Store) → n ≤ k → made k left σ ≡ []
-  unfolding eachTurn turns
+  unfolding eachTurn turnsOver
   made-nothing k left σ h = ap (λ (js : List Job). eachTurn f (turnsFrom bs js left σ)) (none-left bs at n k h)
 
   pub made-all : (left : ℕ → ℕ) (σ : Store) → made 0 left σ ≡ eachTurn f (turnsFrom bs (jobsFrom bs n at) left σ)

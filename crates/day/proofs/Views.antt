@@ -36,8 +36,8 @@ use Rattle.admission.specs.Admission.{fits, allowed, leftAfter, dayAdmitted}
 use Rattle.admission.specs.Allowances.{admissionOf, allowancesOf}
 use Rattle.admission.proofs.Allowances.{Holds, at-first, answered, holds-then}
 use Rattle.day_jobs.specs.JobEnd.{endJob}
-use Rattle.day_jobs.specs.Running.{ran, jobRun, storeAfter, dayTurns}
-use Rattle.day.specs.Views.{skippedView, turnView, turnViews}
+use Rattle.day_jobs.specs.Running.{ran, jobRun, storeAfter, storeAfterOver, dayTurns, dayTurnsOver}
+use Rattle.day.specs.Views.{skippedView, skippedViewOver, turnView, turnViewOver, turnViews}
 use Rattle.day.specs.Parts.{shownAt}
 use Rattle.day_jobs.proofs.Jobs.{records-are, counted, labels-are}
 use Rattle.day_jobs.proofs.Turns.{job}
@@ -72,12 +72,12 @@ shown-part at v b ys h e =
     whole = ap (λ (y : List ℕ). take at b ++ y) (take-append-drop (length b - at) (drop at b)) ∙ take-append-drop at b
 
 pub length-skipped : length skippedView ≡ 206
-unfolding skippedView littleEndian
+unfolding skippedViewOver littleEndian
 length-skipped = refl
 
 -- a skipped job's view in the parts that are written
 pub skipped-parts : (b : List ℕ) → over (numbers 4 0 0 ++ (numbers 0 206 206 ++ replicate 194 0)) b ≡ over skippedView b
-unfolding skippedView numbers littleEndian
+unfolding skippedViewOver numbers littleEndian
 skipped-parts b = refl
 
 -- ── the jobs one by one ──
@@ -105,7 +105,7 @@ module _ (Reads : Label → Bool) (bs : List ℕ) where
 
   pub none-served : (b store : List ℕ) (callers : List Allowance) → callers ≡ allowancesOf (dayHeader bs .steps) → length store ≡ words
       → slots store ≡ startStore (inputSlots (dayInputs bs)) → Served b b store callers 0 0
-  unfolding dayTurns dayAdmitted
+  unfolding dayTurnsOver dayAdmitted
   none-served b store callers e z s =
       record {
         left = allowed (dayHeader bs .steps);
@@ -127,7 +127,7 @@ module _ (Reads : Label → Bool) (bs : List ℕ) where
 
     pub one-skipped : a .admitted ≡ false → {b′ : List ℕ} → b′ ≡ shownAt at skippedView b → length b′ ≡ length b
         → {n : ℕ} → n ≡ 206 → Served b₀ b′ store (a .callers) (at + n) (k + 1)
-    unfolding turnView
+    unfolding turnViewOver
     one-skipped s q z e =
         record {
           left = leftAfter (w .left) j;
@@ -143,7 +143,7 @@ module _ (Reads : Label → Bool) (bs : List ℕ) where
     -- its view, and the views behind it
     view-here : a .admitted ≡ true → (next : List ℕ) → slots next ≡ storeAfter bs j (slots store)
         → left-over k (w .left) store ≡ view Reads (j .steps) (jobRun bs j (slots store)) ++ left-over (k + 1) (leftAfter (w .left) j) next
-    unfolding turnView
+    unfolding turnViewOver
     view-here s next then =
         rw (then, is)
         (made-ran (turnView Reads) bs (dayHeader bs .jobs .offset) (dayHeader bs .jobs .count) k (w .left) (slots store) h (rw is at (fitting s)))
@@ -178,7 +178,7 @@ module _ (Reads : Label → Bool) (bs : List ℕ) (j : Job) (σ : Store) (f : Fi
       )
 
   pub served-store : (c : ℕ) → c ≡ dayHeader bs .records .count → (next : List ℕ) → slots next ≡ endJob c (slots ran) → slots next ≡ storeAfter bs j σ
-  unfolding storeAfter
+  unfolding storeAfterOver
   served-store c e next q = q ∙ rw (e, fin .store)
 
   pub served-length : (n : ℕ) → n ≡ length (view Reads (j .steps) (finished f (slots ran))) → n ≤ 33998

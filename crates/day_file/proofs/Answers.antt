@@ -14,7 +14,7 @@ use Rattle.file_sections.specs.Words.{labelWords}
 use Rattle.file_sections.proofs.Tests.{every-each}
 use Rattle.file_sections.proofs.Labels.{words-are-labels, length-lent}
 use Rattle.day_file.specs.Sections.{dayHeader, daySections, dayLabels, dayLabel, dayJobs, jobFrom}
-use Rattle.day_file.specs.Checks.{sizeOk, passes1, passes2, passes3, passes4, passes10, passes6, passes7, jobOk, jobsOk, spanOk, check, dayRefusal}
+use Rattle.day_file.specs.Checks.{sizeOk, passes1, passes2, passes3, passes4, passes10, passes10Over, passes6, passes7, jobOk, jobsOk, spanOk, check, dayRefusal, dayRefusalOver}
 use Rattle.day_file.specs.Loading.{answer, loadedDay, dayWords}
 use Rattle.day_file.specs.Parts.{DayLoads}
 use Rattle.day_file.specs.declared.Header.{Header}
@@ -46,7 +46,7 @@ module _ (bs : List ℕ) where
   from2 = check 2 (passes2 bs) from3
 
   pub refusal-most : dayRefusal bs ≤ 10
-  unfolding dayRefusal
+  unfolding dayRefusalOver
   refusal-most =
       let m7 : from7 ≤ 10 = check-most 10 7 (passes7 bs) 0 (omega arith) (omega arith) in
       let m6 : from6 ≤ 10 = check-most 10 6 (passes6 bs) from7 (omega arith) m7 in
@@ -58,7 +58,7 @@ module _ (bs : List ℕ) where
 
   -- 10 is tried in place of 5
   pub refusal-not-5 : dayRefusal bs ≢ 5
-  unfolding dayRefusal
+  unfolding dayRefusalOver
   refusal-not-5 =
       let n7 : from7 ≢ 5 = check-not 5 7 (passes7 bs) 0 (λ e. omega arith) (λ e. omega arith) in
       let n6 : from6 ≢ 5 = check-not 5 6 (passes6 bs) from7 (λ e. omega arith) n7 in
@@ -72,11 +72,11 @@ module _ (bs : List ℕ) where
 
 module _ (bs : List ℕ) where
   pub passing-few : passes10 bs ≡ true → (1 ≤ dayHeader bs .jobs .count) × (dayHeader bs .jobs .count ≤ 16)
-  unfolding passes10 jobsOk
+  unfolding passes10Over jobsOk
   passing-few e = let p = every-each _ e in (leb-true _ _ (p .0), leb-true _ _ (p .1 .0))
 
   pub passing-fit : passes10 bs ≡ true → AllJobs (Fits (dayHeader bs) (dayLabel bs)) (dayJobs bs)
-  unfolding passes10 jobsOk
+  unfolding passes10Over jobsOk
   passing-fit e =
       let p = every-each _ e in
       all-map (fits (dayHeader bs) (dayLabel bs)) (dayJobs bs) (all-hold (jobOk (dayHeader bs) (dayLabel bs)) (dayJobs bs) (p .1 .1 .0))
@@ -97,7 +97,7 @@ pub record Accepted (bs : List ℕ) : Type 0 where
 
 module _ (bs : List ℕ) (none : dayRefusal bs ≡ 0) where
   pub accepted : Accepted bs
-  unfolding dayRefusal
+  unfolding dayRefusalOver
   accepted =
       let p1 = none-stops 0 (passes1 bs) (from2 bs) none in
       let p2 = none-stops 1 (passes2 bs) (from3 bs) (p1 .1) in

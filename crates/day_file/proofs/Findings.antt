@@ -14,7 +14,7 @@ use Rattle.file_sections.specs.Checks.{recordsOk}
 use Rattle.file_sections.specs.Words.{labelsFound}
 use Rattle.file_sections.specs.declared.FileLabels.{FileLabels}
 use Rattle.day_file.specs.Sections.{dayHeader, daySections, dayLabels, dayLabel, jobFrom, jobsFrom, span}
-use Rattle.day_file.specs.Checks.{sizeOk, countsOk, offsetsOk, jobsOk, spanOk, passes1, passes2, passes3, passes4, passes10, passes6, passes7}
+use Rattle.day_file.specs.Checks.{sizeOk, countsOk, offsetsOk, jobsOk, spanOk, passes1, passes2, passes3, passes4, passes4Over, passes10, passes10Over, passes6, passes7}
 use Rattle.day_file.specs.declared.Header.{Header}
 use Rattle.day_file.specs.declared.Job.{Job}
 use Rattle.day_file.proofs.Limits.{counted, placed, Fits}
@@ -93,12 +93,12 @@ module _ (bs : List ℕ) where
 
   module _ (t : FileLabels) (is : t ≡ labelsFound (dayLabels bs)) where
     pub finds4 : {b : Bool} → t .whole ≡ b → passes4 bs ≡ b
-    unfolding passes4
+    unfolding passes4Over
     finds4 e = sym (ap (λ (u : FileLabels). u .whole) is) ∙ e
 
     pub finds10 : (h : Header) → h ≡ dayHeader bs → h .labels .count ≤ 32 → {b : Bool}
         → jobsOk h (labelIn (t .words)) (jobsFrom bs (h .jobs .count) (h .jobs .offset)) ≡ b → passes10 bs ≡ b
-    unfolding passes10
+    unfolding passes10Over
     finds10 h same few r =
         let listed = subst (λ (g : Header). g .labels .count ≤ 32) same few in
         let ls : dayLabel bs ≡ labelIn (t .words) = sym (ap (λ (u : FileLabels). labelIn (u .words)) is ∙ labels-in bs listed) in

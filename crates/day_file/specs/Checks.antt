@@ -10,7 +10,7 @@ use Rattle.labels.specs.Order.{flows}
 use Rattle.labels.specs.declared.Label.{Label}
 use Rattle.file_sections.specs.Checks.{every, labelsPass, recordsPass}
 use Rattle.code_check.specs.Sweep.{codeOk}
-use Rattle.day_file.specs.Sections.{dayHeader, daySections, dayLabel, dayJobs, span}
+use Rattle.day_file.specs.Sections.{dayHeader, daySections, dayLabelOver, dayJobs, span}
 use Rattle.day_file.specs.declared.Header.{Header}
 use Rattle.day_file.specs.declared.Job.{Job}
 
@@ -52,7 +52,7 @@ jobsOk h ls js = every (leb 1 (h .jobs .count) ∷ leb (h .jobs .count) 16 ∷ e
 unfoldable pub spanOk : List ℕ → Job → Bool
 spanOk bs j = codeOk (dayHeader bs .labels .count) (dayHeader bs .records .count) (span bs j)
 
--- what each check finds in a day: true where it does not apply
+-- what each check finds in a day: true where it does not apply. 4 and 10 read labels over n principals.
 unfoldable pub passes1 : List ℕ → Bool
 passes1 bs = sizeOk (length bs)
 
@@ -62,11 +62,11 @@ passes2 bs = countsOk (dayHeader bs)
 unfoldable pub passes3 : List ℕ → Bool
 passes3 bs = offsetsOk (dayHeader bs) (length bs)
 
-unfoldable pub passes4 : List ℕ → Bool
-passes4 bs = labelsPass principals (daySections bs) bs
+unfoldable pub passes4Over : ℕ → List ℕ → Bool
+passes4Over n bs = labelsPass n (daySections bs) bs
 
-unfoldable pub passes10 : List ℕ → Bool
-passes10 bs = jobsOk (dayHeader bs) (dayLabel bs) (dayJobs bs)
+unfoldable pub passes10Over : ℕ → List ℕ → Bool
+passes10Over n bs = jobsOk (dayHeader bs) (dayLabelOver n bs) (dayJobs bs)
 
 unfoldable pub passes6 : List ℕ → Bool
 passes6 bs = recordsPass (daySections bs) bs
@@ -80,12 +80,22 @@ check n t behind = cond t behind n
 
 -- "10, in place of 5 and tried where 5 was, before 6": the number of the first check in this order that stops the day; 0
 -- where none does
-unfoldable pub dayRefusal : List ℕ → ℕ
-dayRefusal bs =
+unfoldable pub dayRefusalOver : ℕ → List ℕ → ℕ
+dayRefusalOver n bs =
     check 1 (passes1 bs)
     (check 2 (passes2 bs)
     (check 3 (passes3 bs)
-    (check 4 (passes4 bs)
-    (check 10 (passes10 bs)
+    (check 4 (passes4Over n bs)
+    (check 10 (passes10Over n bs)
     (check 6 (passes6 bs)
     (check 7 (passes7 bs) 0))))))
+
+-- over the principals that there are
+abbrev pub passes4 : List ℕ → Bool
+passes4 = passes4Over principals
+
+abbrev pub passes10 : List ℕ → Bool
+passes10 = passes10Over principals
+
+abbrev pub dayRefusal : List ℕ → ℕ
+dayRefusal = dayRefusalOver principals

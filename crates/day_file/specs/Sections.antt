@@ -4,10 +4,11 @@ use mathlib.Core.List.{List, [], _∷_}
 use mathlib.Core.Option.{Option}
 use Prim.Native.Nat.{ℕ, zero, suc, _+_}
 use lib.ListN.{take, drop}
+use Rattle.labels.specs.Tables.{principals}
 use Rattle.labels.specs.declared.Label.{Label}
 use Rattle.model.specs.Decoding.{byte, u16, u32}
 use Rattle.model.specs.Inputs.{Input}
-use Rattle.file_sections.specs.Sections.{Sections, section, labelsOf, labelOf, inputsOf}
+use Rattle.file_sections.specs.Sections.{Sections, section, labelsOf, labelOfOver, inputsOver}
 use Rattle.day_file.specs.declared.Header.{Header}
 use Rattle.day_file.specs.declared.Job.{Job}
 
@@ -21,12 +22,18 @@ daySections bs = record { first = 20; labels = dayHeader bs .labels .count; reco
 abbrev pub dayLabels : List ℕ → Option (List Label)
 dayLabels bs = labelsOf (daySections bs) bs
 
--- label i of a day, as of a plain file
+-- label i of a day, as of a plain file, over n principals and over those that there are
+abbrev pub dayLabelOver : ℕ → List ℕ → ℕ → Label
+dayLabelOver n bs i = labelOfOver n (daySections bs) bs i
+
 abbrev pub dayLabel : List ℕ → ℕ → Label
-dayLabel bs i = labelOf (daySections bs) bs i
+dayLabel = dayLabelOver principals
+
+abbrev pub dayInputsOver : ℕ → List ℕ → List Input
+dayInputsOver n bs = inputsOver n (daySections bs) bs
 
 abbrev pub dayInputs : List ℕ → List Input
-dayInputs bs = inputsOf (daySections bs) bs
+dayInputs = dayInputsOver principals
 
 -- ── jobs ──
 

@@ -14,14 +14,14 @@ use Rattle.admission.specs.Admission.{allowed, dayAdmitted}
 use Rattle.admission.specs.Callers.{own, answers}
 use Rattle.admission.proofs.Sentence.{as-many}
 use Rattle.admission.proofs.Callers.{other-callers}
-use Rattle.day_jobs.specs.Running.{Turn, skipped, ran, turns, dayTurns}
+use Rattle.day_jobs.specs.Running.{Turn, skipped, ran, turns, turnsOver, dayTurns, dayTurnsOver}
 
 unfoldable pub wasRun : Turn → Bool
 wasRun skipped = false
 wasRun (ran s o) = true
 
 turns-run : (bs : List ℕ) (js : List Job) (ys : List Bool) (σ : Store) → length ys ≡ length js → map wasRun (turns bs js ys σ) ≡ ys
-unfolding turns wasRun
+unfolding turnsOver wasRun
 turns-run bs [] [] σ e = refl
 turns-run bs [] (y ∷ ys) σ e = absurd (omega arith)
 turns-run bs (j ∷ js) [] σ e = absurd (omega arith)
@@ -29,7 +29,7 @@ turns-run bs (j ∷ js) (true ∷ ys) σ e = ap (λ (zs : List Bool). true ∷ z
 turns-run bs (j ∷ js) (false ∷ ys) σ e = ap (λ (zs : List Bool). false ∷ zs) (turns-run bs js ys σ (suc-inj e))
 
 pub run-if-admitted : (bs : List ℕ) → map wasRun (dayTurns bs) ≡ dayAdmitted bs
-unfolding dayTurns dayAdmitted
+unfolding dayTurnsOver dayAdmitted
 run-if-admitted bs = turns-run bs (dayJobs bs) (dayAdmitted bs) _ (as-many (allowed (dayHeader bs .steps)) (dayJobs bs))
 
 -- of caller c's jobs of a day, whether each is run

@@ -18,7 +18,7 @@ use Rattle.noninterference.proofs.Accepted.{every-label}
 use Rattle.day_file.specs.declared.Job.{Job}
 use Rattle.day_file.specs.Sections.{dayHeader, daySections, dayLabel, dayInputs, span}
 use Rattle.day_jobs.specs.JobEnd.{endJob}
-use Rattle.day_jobs.specs.Running.{jobProgram, jobAccount, jobRun, storeAfter}
+use Rattle.day_jobs.specs.Running.{jobProgram, jobProgramOver, jobAccount, jobAccountOver, jobRun, jobRunOver, storeAfter, storeAfterOver}
 use Rattle.day_jobs.proofs.JobEnd.{length-end, end-at, end-empty}
 
 -- of the 256 places of a store, none from c on is taken
@@ -42,7 +42,7 @@ module _ (bs : List ℕ) where
   count-inputs = length-inputs (dayLabel bs) (recordBytesOf (daySections bs) bs) (dayHeader bs .records .count) 0
 
   pub job-fresh : (j : Job) (σ : Store) → j .places ≤ 256 → Free (dayHeader bs .records .count) σ → Fresh (jobAccount bs j) σ
-  unfolding jobAccount
+  unfolding jobAccountOver
   job-fresh j σ le f p i = (omega (arith, i .1, f .sized), f .empty p (i .0))
 
   -- the day starts with no more places taken than there are inputs
@@ -60,7 +60,7 @@ module _ (bs : List ℕ) where
 
   module _ (j : Job) (le : j .places ≤ 256) (σ : Store) (f : Free (dayHeader bs .records .count) σ) where
     kept : Kept anyLabel (jobAccount bs j) σ (jobRun bs j σ .account) (jobRun bs j σ .store)
-    unfolding jobRun runs jobProgram
+    unfolding jobRunOver runs jobProgramOver
     kept =
         run-kept (jobProgram bs j) anyLabel (every-label (span bs j) (dayLabel bs) (dayInputs bs)) (jobAccount bs j .steps) startControl (jobAccount bs j) σ
         (job-fresh j σ le f)
@@ -70,11 +70,11 @@ module _ (bs : List ℕ) where
     job-sized = sym (kept .sized) ∙ f .sized
 
     pub after-free : Free (dayHeader bs .records .count) (storeAfter bs j σ)
-    unfolding storeAfter
+    unfolding storeAfterOver
     after-free = end-free (dayHeader bs .records .count) (jobRun bs j σ .store) job-sized
 
     -- and fills none from its limit on
     pub job-below : dayHeader bs .records .count ≤ j .places → (p : ℕ) → j .places ≤ p → at (jobRun bs j σ .store) p ≡ Empty
-    unfolding jobAccount
+    unfolding jobAccountOver
     job-below fits p h =
         shell-none (at (jobRun bs j σ .store) p) (ap shell (sym (f .empty p (omega arith))) ∙ kept .shells p (λ i. omega (arith, i .1)))

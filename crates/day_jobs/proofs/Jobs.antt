@@ -18,7 +18,7 @@ use Rattle.day_file.specs.Parts.{DayLoads}
 use Rattle.day_file.proofs.Limits.{Counted, Placed, Fits}
 use Rattle.day_file.proofs.Answers.{within-limits, in-place, day-labels, job-fits}
 use Rattle.day_file.proofs.Findings.{recordsIn, spanIn, records-in, span-in}
-use Rattle.day_jobs.specs.Running.{jobProgram, jobAccount, jobRun}
+use Rattle.day_jobs.specs.Running.{jobProgram, jobProgramOver, jobAccountOver, jobRun, jobRunOver}
 use Rattle.day_jobs.specs.Parts.{Runnable}
 
 module _ (bs : List ℕ) (h : Header) (ws : List ℕ) (w : DayLoads bs h ws) where
@@ -47,7 +47,7 @@ module _ (bs : List ℕ) (h : Header) (ws : List ℕ) (w : DayLoads bs h ws) whe
 
   module _ (j : Job) where
     program-is : program (spanIn h bs j) ws (recordsIn h bs) ≡ jobProgram bs j
-    unfolding program jobProgram inputsOver
+    unfolding program jobProgramOver inputsOver
     program-is =
         rw (span-in bs h (w .numbers) j, labels-are, counted, records-are)
         (ap (λ (g : Header). programOf (span bs j) (dayLabel bs) (inputs (dayLabel bs) (recordBytesOf (daySections bs) bs) (g .records .count) 0)) (w .numbers))
@@ -55,7 +55,7 @@ module _ (bs : List ℕ) (h : Header) (ws : List ℕ) (w : DayLoads bs h ws) whe
     -- the run that the machine makes of the parts
     pub run-is : (l c : Label) (σ : Store) → l ≡ labelIn ws (j .label) → c ≡ labelIn ws (j .clearance)
         → runs (program (spanIn h bs j) ws (recordsIn h bs)) startControl (startAccount l c (j .steps) (count (recordsIn h bs)) (j .places)) σ ≡ jobRun bs j σ
-    unfolding jobRun jobAccount
+    unfolding jobRunOver jobAccountOver
     run-is l c σ el ec = rw (el, ec, program-is, counted, labels-are, w .numbers)
 
     pub span-short : j .length < 2 ^ 16 → length (spanIn h bs j) < 2 ^ 16

@@ -8,7 +8,7 @@ use Rattle.model.specs.State.{Store}
 use Rattle.day_file.specs.declared.Job.{Job}
 use Rattle.day_file.specs.Sections.{jobFrom, jobsFrom}
 use Rattle.admission.specs.Admission.{fits, leftAfter, admitted}
-use Rattle.day_jobs.specs.Running.{Turn, skipped, ran, jobRun, storeAfter, turns}
+use Rattle.day_jobs.specs.Running.{Turn, skipped, ran, jobRun, storeAfter, turns, turnsOver}
 
 -- ── the turns ──
 
@@ -18,11 +18,11 @@ turnsFrom bs js left σ = turns bs js (admitted left js) σ
 
 module _ (bs : List ℕ) (j : Job) (js : List Job) (left : ℕ → ℕ) (σ : Store) where
   pub turn-skipped : fits (left (j .caller)) (j .steps) ≡ false → turnsFrom bs (j ∷ js) left σ ≡ skipped ∷ turnsFrom bs js (leftAfter left j) σ
-  unfolding admitted turns
+  unfolding admitted turnsOver
   turn-skipped e = rw e
 
   pub turn-ran : fits (left (j .caller)) (j .steps) ≡ true → turnsFrom bs (j ∷ js) left σ ≡ ran (j .steps) (jobRun bs j σ) ∷ turnsFrom bs js (leftAfter left j) (storeAfter bs j σ)
-  unfolding admitted turns
+  unfolding admitted turnsOver
   turn-ran e = rw e
 
 -- ── jobs by their number ──

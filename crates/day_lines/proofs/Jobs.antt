@@ -21,7 +21,7 @@ use Rattle.file_lines.specs.Room.{longestLine}
 use Rattle.file_lines.proofs.Lengths.{line-most}
 use Rattle.day_file.specs.Sections.{dayHeader, dayLabel, jobFrom}
 use Rattle.day_jobs.specs.Running.{Turn, skipped, dayTurns}
-use Rattle.day.specs.Views.{skippedView, turnView, eachTurn}
+use Rattle.day.specs.Views.{skippedView, skippedViewOver, turnView, eachTurn}
 use Rattle.day_turns.specs.Keeping.{none, turnOf, storeAt, Kept}
 use Rattle.day_turns.specs.declared.JobEnd.{JobEnd}
 use Rattle.day_lines.specs.Lines.{dayLines}
@@ -30,12 +30,12 @@ use Rattle.day_lines.specs.Lines.{dayLines}
 
 -- 13 fields, the last without a space but with a line feed, and two digits for each of 206 bytes
 pub skipped-line : length (line skippedView) ≡ 425
-unfolding skippedView littleEndian u16 line frontFields widths spaced hex
+unfolding skippedViewOver littleEndian u16 line frontFields widths spaced hex
 skipped-line = refl
 
 -- a buffer of 206 bytes holds the view of a skipped job and nothing else
 pub skipped-alone : over skippedView (replicate 206 0) ≡ skippedView
-unfolding over skippedView littleEndian
+unfolding over skippedViewOver littleEndian
 skipped-alone = refl
 
 -- the line of a run that left its records in a store of 256 places

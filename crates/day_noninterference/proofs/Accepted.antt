@@ -23,8 +23,8 @@ use Rattle.day_file.proofs.Limits.{Fits}
 use Rattle.day_file.proofs.Tests.{AllJobs, all-map}
 use Rattle.day_file.proofs.Answers.{within-limits, in-place, jobs-fit, spans-fit}
 use Rattle.admission.specs.Admission.{dayAdmitted}
-use Rattle.day_jobs.specs.Running.{jobProgram, jobAccount, jobRun, storeAfter, Turn, skipped, ran, turns, dayTurns}
-use Rattle.day.specs.Views.{skippedView, turnView}
+use Rattle.day_jobs.specs.Running.{jobProgram, jobProgramOver, jobAccount, jobAccountOver, jobRun, jobRunOver, storeAfter, Turn, skipped, ran, turns, turnsOver, dayTurns, dayTurnsOver}
+use Rattle.day.specs.Views.{skippedView, skippedViewOver, turnView, turnViewOver}
 use Rattle.day_jobs.proofs.Between.{Free, count-inputs, start-free, job-fresh, job-sized, after-free}
 use Rattle.noninterference.proofs.Demand3.{preorder}
 use Rattle.noninterference.proofs.Accepted.{OnCode, every-label, reached-on-code, start-closed}
@@ -49,14 +49,14 @@ pub data Given (bs : List ℕ) : Turn → Type 0 where
   a-run : {j : Job} {js : List Job} {ads : List Bool} {σ : Store} → Comes bs (j ∷ js) (true ∷ ads) σ → Given bs (ran (j .steps) (jobRun bs j σ))
 
 turns-given : (bs : List ℕ) (js : List Job) (ads : List Bool) (σ : Store) → Comes bs js ads σ → AllTurns (Given bs) (turns bs js ads σ)
-unfolding turns
+unfolding turnsOver
 turns-given bs [] ads σ h = tt
 turns-given bs (j ∷ js) [] σ h = tt
 turns-given bs (j ∷ js) (true ∷ ads) σ h = (a-run h, turns-given bs js ads (storeAfter bs j σ) (ends h))
 turns-given bs (j ∷ js) (false ∷ ads) σ h = (no-run, turns-given bs js ads σ (skips h))
 
 pub day-given : (bs : List ℕ) → AllTurns (Given bs) (dayTurns bs)
-unfolding dayTurns
+unfolding dayTurnsOver
 day-given bs = turns-given bs _ _ _ starts
 
 module _ (bs : List ℕ) (none : dayRefusal bs ≡ 0) where
@@ -92,7 +92,7 @@ module _ (bs : List ℕ) (none : dayRefusal bs ≡ 0) where
   pub day-accepted : {j : Job} {js : List Job} {ads : List Bool} {σ : Store} → Comes bs (j ∷ js) (true ∷ ads) σ
       → (c : Control) (a : Account) (τ : Store) → Reached (jobProgram bs j) startControl (jobAccount bs j) σ c a τ
       → OnCode (dayHeader bs .labels .count) (dayHeader bs .records .count) (span bs j) (jobProgram bs j) c τ
-  unfolding jobProgram spanOk
+  unfolding jobProgramOver spanOk
   day-accepted {j = j} {σ = σ} h =
       let s = comes-sound h in
       reached-on-code (dayHeader bs .labels .count) (dayHeader bs .records .count) (span bs j) (dayLabel bs) (dayInputs bs) (s .pass .0)
@@ -103,14 +103,14 @@ module _ (bs : List ℕ) (none : dayRefusal bs ≡ 0) where
   pub job-capped : {j : Job} {js : List Job} {ads : List Bool} {σ : Store} → Comes bs (j ∷ js) (true ∷ ads) σ
       → (c : Control) (a : Account) (τ : Store) → Reached (jobProgram bs j) startControl (jobAccount bs j) σ c a τ
       → Capped (jobProgram bs j) (dayLabel bs (j .clearance)) c a
-  unfolding jobProgram jobAccount
+  unfolding jobProgramOver jobAccountOver
   job-capped {j = j} {σ = σ} h =
       cap-holds (jobProgram bs j) (preorder (span bs j) (dayLabel bs) (dayInputs bs)) startControl (jobAccount bs j) σ refl (comes-sound h .fit .0 .starts)
 
   pub job-ends-capped : {j : Job} {js : List Job} {ads : List Bool} {σ : Store} → Comes bs (j ∷ js) (true ∷ ads) σ
       → (flows (jobRun bs j σ .account .label) (jobRun bs j σ .account .clearance) ≡ true)
       × (flows (jobRun bs j σ .account .clearance) (dayLabel bs (j .clearance)) ≡ true)
-  unfolding jobProgram jobAccount jobRun
+  unfolding jobProgramOver jobAccountOver jobRunOver
   job-ends-capped {j = j} {σ = σ} h =
       cap-at-end (jobProgram bs j) (preorder (span bs j) (dayLabel bs) (dayInputs bs)) startControl (jobAccount bs j) σ refl (comes-sound h .fit .0 .starts)
 
@@ -121,13 +121,13 @@ abbrev pub LengthTold : List ℕ → ℕ → Turn → Type 0
 LengthTold bs i t = u16 (turnView (λ l. flows l (dayLabel bs i)) t) 10 ≡ length (turnView (λ l. flows l (dayLabel bs i)) t)
 
 skipped-length : u16 skippedView 10 ≡ length skippedView
-unfolding skippedView u16 littleEndian
+unfolding skippedViewOver u16 littleEndian
 skipped-length = refl
 
 module _ (bs : List ℕ) (i : ℕ) where
   turn-lengths : (js : List Job) (ads : List Bool) (σ : Store) → AllJobs (λ j. j .places ≤ 256) js → Free (dayHeader bs .records .count) σ
       → AllTurns (LengthTold bs i) (turns bs js ads σ)
-  unfolding turns turnView
+  unfolding turnsOver turnViewOver
   turn-lengths [] ads σ fit free = tt
   turn-lengths (j ∷ js) [] σ fit free = tt
   turn-lengths (j ∷ js) (true ∷ ads) σ fit free = (
@@ -138,7 +138,7 @@ module _ (bs : List ℕ) (i : ℕ) where
 
   -- "A view is as many bytes as its length field says", each of a day's.
   pub day-view-lengths : dayRefusal bs ≡ 0 → AllTurns (LengthTold bs i) (dayTurns bs)
-  unfolding dayTurns
+  unfolding dayTurnsOver
   day-view-lengths none =
       turn-lengths (dayJobs bs) (dayAdmitted bs) (startStore (inputSlots (dayInputs bs)))
       (all-map (λ j f. f .places) (dayJobs bs) (jobs-fit bs none))

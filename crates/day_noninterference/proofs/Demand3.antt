@@ -15,14 +15,14 @@ use Rattle.model.proofs.Start.{AlikeInputs, alike-handles, start-equivalent}
 use Rattle.day_file.specs.declared.Header.{Header}
 use Rattle.day_file.specs.declared.Job.{Job}
 use Rattle.day_file.specs.Sections.{dayHeader, daySections, dayLabel, dayInputs, dayJobs}
-use Rattle.day_file.specs.Checks.{spanOk, passes1, passes2, passes3, passes4, passes7, passes10, dayRefusal}
+use Rattle.day_file.specs.Checks.{spanOk, passes1, passes2, passes3, passes4Over, passes7, passes10Over, dayRefusal, dayRefusalOver}
 use Rattle.day_file.proofs.Tests.{all-map}
 use Rattle.day_file.proofs.Answers.{within-limits, jobs-fit}
 use Rattle.admission.specs.Admission.{dayAdmitted}
 use Rattle.admission.proofs.Callers.{by-jobs}
-use Rattle.day_jobs.specs.Running.{jobProgram, jobAccount, jobRun, storeAfter, skipped, ran, Turn, turns, dayTurns}
+use Rattle.day_jobs.specs.Running.{jobProgramOver, jobAccountOver, jobRun, jobRunOver, storeAfter, storeAfterOver, skipped, ran, Turn, turns, turnsOver, dayTurns, dayTurnsOver}
 use Rattle.day_jobs.specs.JobEnd.{endJob}
-use Rattle.day.specs.Views.{turnViews, dayView, dayReading}
+use Rattle.day.specs.Views.{turnViews, dayView, dayViewOver, dayReading}
 use Rattle.day_jobs.proofs.Between.{count-inputs, start-free}
 use Rattle.noninterference.specs.Alike.{SameReads}
 use Rattle.noninterference.proofs.Sections.{one-or-legible}
@@ -34,7 +34,7 @@ use Rattle.day_noninterference.proofs.Turns.{Between, betweenJobs, same
 -- two days whose jobs run alike, of as many input records, have the same turns
 turns-alike : (bs cs : List ℕ) → jobRun bs ≡ jobRun cs → dayHeader bs .records .count ≡ dayHeader cs .records .count
     → (js : List Job) (ads : List Bool) (σ : Store) → turns bs js ads σ ≡ turns cs js ads σ
-unfolding turns storeAfter
+unfolding turnsOver storeAfterOver
 turns-alike bs cs e n [] ads σ = refl
 turns-alike bs cs e n (j ∷ js) [] σ = refl
 turns-alike bs cs e n (j ∷ js) (true ∷ ads) σ =
@@ -54,7 +54,7 @@ module _ (bs cs : List ℕ) (i : ℕ) (A : DayAlike bs cs i) (lb : dayLegible bs
   same-span-ok = fun-ext (λ (j : Job). cc (he, ap (λ (f : Job → List ℕ). f j) (same-span bs cs i A lb lc)))
 
   same-refusal : dayRefusal bs ≡ dayRefusal cs
-  unfolding dayRefusal passes1 passes2 passes3 passes4 passes10 passes7
+  unfolding dayRefusalOver passes1 passes2 passes3 passes4Over passes10Over passes7
   same-refusal =
       let six = day-legible-each bs i lb .1 .1 .1 .1 .0 in
       let six′ = day-legible-each cs i lc .1 .1 .1 .1 .0 in
@@ -64,7 +64,7 @@ module _ (bs cs : List ℕ) (i : ℕ) (A : DayAlike bs cs i) (lb : dayLegible bs
   alike = alike-day-inputs bs cs i A lb lc
 
   same-run : jobRun bs ≡ jobRun cs
-  unfolding jobRun jobProgram jobAccount
+  unfolding jobRunOver jobProgramOver jobAccountOver
   same-run =
       let one = same-day-label bs cs i A lb lc in
       let two = alike-handles (λ l. flows l (dayLabel bs i)) 0 (dayInputs bs) (dayInputs cs) alike in
@@ -81,7 +81,7 @@ module _ (bs cs : List ℕ) (i : ℕ) (A : DayAlike bs cs i) (lb : dayLegible bs
       }
 
   views-alike : dayRefusal bs ≡ 0 → dayView bs i ≡ dayView cs i
-  unfolding dayView dayTurns
+  unfolding dayViewOver dayTurnsOver
   views-alike none =
       same-turns bs (λ l. flows l (dayLabel bs i)) (λ l. flows l (dayLabel bs i)) (λ l e. e) (readable [] (dayLabel bs) (dayInputs bs) (dayLabel bs i))
       (dayJobs bs) ads (startStore (inputSlots (dayInputs bs))) start (all-map (λ j f. f .places) (dayJobs bs) (jobs-fit bs none)) (starts none)

@@ -19,8 +19,8 @@ use Rattle.view.specs.Reading.{fileView, fileViewOver}
 use Rattle.day_file.specs.Sections.{dayHeader, daySections, dayLabel, dayInputs, dayJobs, jobFrom, jobsFrom, span}
 use Rattle.day_file.specs.declared.Job.{Job}
 use Rattle.admission.specs.Admission.{fits, allowed, admitted, dayAdmitted}
-use Rattle.day_jobs.specs.Running.{jobProgram, jobAccount, jobRun, ran, turns, dayTurns}
-use Rattle.day.specs.Views.{turnView, eachTurn, turnViews, dayView}
+use Rattle.day_jobs.specs.Running.{jobProgramOver, jobAccountOver, jobRun, jobRunOver, ran, turnsOver, dayTurns, dayTurnsOver}
+use Rattle.day.specs.Views.{turnViewOver, eachTurn, turnViews, dayView, dayViewOver}
 
 -- Day bs has the one job j, which it admits; file cs has the same labels, records, code, steps and places, and its labels 0
 -- and 1 are the job's two.
@@ -45,15 +45,15 @@ module _ (bs cs : List ℕ) (j : Job) (s : SameScript bs cs j) where
   same-inputs = cc (same-label, s .records, s .count)
 
   same-run : jobRun bs j (startStore (inputSlots (dayInputs bs))) ≡ fileRun cs
-  unfolding jobRun jobProgram jobAccount fileRunOver fileProgramOver fileAccountOver
+  unfolding jobRunOver jobProgramOver jobAccountOver fileRunOver fileProgramOver fileAccountOver
   same-run = cc (same-label, same-inputs, s .count, s .code, s .steps, s .places, s .label, s .clearance)
 
   one-turn : dayTurns bs ≡ ran (j .steps) (jobRun bs j (startStore (inputSlots (dayInputs bs)))) ∷ []
-  unfolding dayTurns dayAdmitted admitted allowed fits turns
+  unfolding dayTurnsOver dayAdmitted admitted allowed fits turnsOver
   one-turn = rw (s .one-job, le-leb (j .steps) (dayHeader bs .steps) (s .admits))
 
   pub one-job-view : (i : ℕ) → dayView bs i ≡ fileView cs i
-  unfolding dayView eachTurn turnView fileViewOver
+  unfolding dayViewOver eachTurn turnViewOver fileViewOver
   one-job-view i =
       ap (turnViews (λ l. flows l (dayLabel bs i))) one-turn
       ∙ append-nil (view (λ l. flows l (dayLabel bs i)) (j .steps) (jobRun bs j (startStore (inputSlots (dayInputs bs)))))

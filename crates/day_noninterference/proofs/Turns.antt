@@ -15,8 +15,8 @@ use Rattle.view.proofs.SameView.{same-view}
 use Rattle.day_file.specs.Sections.{dayHeader, dayLabel, dayInputs}
 use Rattle.day_file.specs.declared.Job.{Job}
 use Rattle.day_file.proofs.Tests.{AllJobs}
-use Rattle.day_jobs.specs.Running.{jobProgram, jobAccount, jobRun, storeAfter, skipped, turns}
-use Rattle.day.specs.Views.{turnView, eachTurn, turnViews}
+use Rattle.day_jobs.specs.Running.{jobProgram, jobProgramOver, jobAccount, jobRun, jobRunOver, storeAfter, storeAfterOver, skipped, turns, turnsOver}
+use Rattle.day.specs.Views.{turnView, turnViewOver, eachTurn, turnViews}
 use Rattle.day_jobs.proofs.Between.{Free, count-inputs, job-fresh, after-free}
 use Rattle.day_noninterference.proofs.JobEnd.{end-equivalent, other-program}
 
@@ -35,19 +35,19 @@ module _ (bs : List ℕ) where
 
   module _ (Low : Label → Bool) (D : LowSet betweenJobs Low) (j : Job) (le : j .places ≤ 256) where
     under : LowSet (jobProgram bs j) Low
-    unfolding jobProgram
+    unfolding jobProgramOver
     under = record { down = D .down; join-left = D .join-left; join-right = D .join-right }
 
     module _ (σ τ : Store) (b : Between Low σ τ) where
       pub two-jobs : LowOutcomes (jobProgram bs j) Low (jobRun bs j σ) (jobRun bs j τ)
-      unfolding jobProgram jobRun
+      unfolding jobProgramOver jobRunOver
       two-jobs =
           two-runs (jobProgram bs j) Low under startControl (jobAccount bs j) σ τ (job-fresh bs j σ le (b .left)) (job-fresh bs j τ le (b .right))
           (record { stack = tt; locals = numbers-point (Twin σ τ) 16 }) (other-program betweenJobs (jobProgram bs j) Low σ τ refl (b .same))
 
       -- and once it has ended, the next job starts from two such stores
       pub after-between : Between Low (storeAfter bs j σ) (storeAfter bs j τ)
-      unfolding jobProgram storeAfter
+      unfolding jobProgramOver storeAfterOver
       after-between =
           record {
             left = after-free bs j le σ (b .left);
@@ -62,7 +62,7 @@ module _ (bs : List ℕ) where
   module _ (Reads Low : Label → Bool) (within : (l : Label) → Reads l ≡ true → Low l ≡ true) (D : LowSet betweenJobs Low) where
     pub same-turns : (js : List Job) (ads : List Bool) (σ τ : Store) → AllJobs (λ j. j .places ≤ 256) js → Between Low σ τ
         → turnViews Reads (turns bs js ads σ) ≡ turnViews Reads (turns bs js ads τ)
-    unfolding turns eachTurn turnView
+    unfolding turnsOver eachTurn turnViewOver
     same-turns [] ads σ τ fit b = refl
     same-turns (j ∷ js) [] σ τ fit b = refl
     same-turns (j ∷ js) (true ∷ ads) σ τ fit b =

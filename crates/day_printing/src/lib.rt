@@ -47,7 +47,7 @@ fn print_labels(
 
 // Prints the lines of a day, and tells whether all of them were written.
 pub fn print_day(file: &[u8]) -> bool {
-    let mut labels = [0u64; 256];
+    let mut labels = [0u64; file_sections::WORDS];
     let loaded = day_file::load_day(file, &mut labels);
     match loaded {
         Loaded::Refused(n) => print_refused(n as u8),

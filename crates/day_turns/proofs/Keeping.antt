@@ -24,9 +24,9 @@ use Rattle.admission.specs.declared.Admission.{Admission}
 use Rattle.admission.specs.Admission.{fits, allowed, leftAfter, dayAdmitted}
 use Rattle.admission.specs.Allowances.{admissionOf, allowancesOf}
 use Rattle.admission.proofs.Allowances.{Holds, at-first, answered, holds-then}
-use Rattle.day_jobs.specs.Running.{Turn, skipped, ran, jobRun, storeAfter, turns, dayTurns}
+use Rattle.day_jobs.specs.Running.{Turn, skipped, ran, jobRun, storeAfter, turns, turnsOver, dayTurns, dayTurnsOver}
 use Rattle.day_jobs.proofs.Turns.{turnsFrom, turn-skipped, turn-ran, jobsLeft, job, all-left, next-job, none-left}
-use Rattle.day.specs.Views.{turnView}
+use Rattle.day.specs.Views.{turnView, turnViewOver}
 use Rattle.day.proofs.Views.{served-view}
 use Rattle.day_turns.specs.Keeping.{storesWords, none, turnOf, storeAt, Kept}
 use Rattle.day_turns.specs.declared.JobEnd.{JobEnd}
@@ -57,7 +57,7 @@ module _ (bs : List ℕ) where
   -- a job that ended so shows any reader what its run does
   shown-same : (Reads : Label → Bool) (j : Job) (f : Finished) (ys store : List ℕ) → Finishes f (slots ys) (jobRun bs j (slots store))
       → turnView Reads (turnOf (j .steps) (record { ran = true; finish = f }) ys) ≡ turnView Reads (ran (j .steps) (jobRun bs j (slots store)))
-  unfolding turnView
+  unfolding turnViewOver
   shown-same Reads j f ys store fin = served-view Reads bs j (slots store) f ys fin
 
   -- The turns of the jobs below k are kept; those from k on are still to come.
@@ -76,7 +76,7 @@ module _ (bs : List ℕ) where
   pub none-kept : {a b : Label} → a ≡ noLabel → b ≡ noLabel
       → (stores store : List ℕ) (callers : List Allowance) → callers ≡ allowancesOf (dayHeader bs .steps) → length stores ≡ storesWords → length store ≡ words
       → slots store ≡ startStore (inputSlots (dayInputs bs)) → Keeping (replicate 16 (unrun a b)) stores store callers 0
-  unfolding dayTurns dayAdmitted
+  unfolding dayTurnsOver dayAdmitted
   none-kept {a} {b} f g stores store callers e r z s =
       record {
         left = allowed (dayHeader bs .steps);
@@ -161,7 +161,7 @@ module _ (bs : List ℕ) where
                 (shown-same Reads j f ys store fin)
 
   pub all-kept : {ends : List JobEnd} {stores store : List ℕ} {callers : List Allowance} {k : ℕ} → Keeping ends stores store callers k → n ≤ k → Kept bs ends stores
-  unfolding turns
+  unfolding turnsOver
   all-kept {ends} {stores} {store} {k = k} w h =
       record {
         count = let e = ap length (w .rest ∙ ap (λ (js : List Job). turnsFrom bs js (w .left) (slots store)) (none-left bs first n k h)) in let l = length-drop k (dayTurns bs) in omega (arith, w .enough, w .below);

@@ -68,7 +68,7 @@ pub fn write_printed(file: &[u8], out: &mut [u8]) -> usize
     requires { ⌜ mostPrinted ≤ length (now out) ⌝ }
     ensures { λ r. ⌜ (r ≡ length (printed (now (file .entry)))) × (now (out .exit) ≡ over (printed (now (file .entry))) (now (out .entry))) ⌝ }
 {
-    let mut labels = [0u64; 256];
+    let mut labels = [0u64; file_sections::WORDS];
     let loaded = script_file::load(file, &mut labels);
     match loaded {
         Loaded::Refused(why) => lines::write_refused(script_file::number(why) as u8, out),

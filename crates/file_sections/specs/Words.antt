@@ -15,7 +15,7 @@ use Rattle.file_sections.specs.declared.FileLabels.{FileLabels}
 abbrev tableWords : Table → List ℕ → List ℕ
 tableWords t ws = t .word0 ∷ t .word1 ∷ t .word2 ∷ t .word3 ∷ ws
 
--- label i at the eight words from 8 i on
+-- one label behind the other
 abbrev pub tables : List Label → List ℕ
 tables [] = []
 tables (l ∷ ls) = tableWords (l .secrecy) (tableWords (l .integrity) (tables ls))

@@ -7,6 +7,7 @@ ghost use Rattle.file_sections.specs.Sections.{section, readLabels};
 ghost use Rattle.file_sections.specs.Checks.{recordsOk};
 ghost use Rattle.file_sections.specs.Words.{Short, labelsFound};
 use label_entries::Entry;
+use labels::LABEL_WORDS;
 
 // A section of the file: how many entries (of the code: bytes) it has, and where it starts.
 pub struct Section {
@@ -14,10 +15,13 @@ pub struct Section {
     pub offset: usize,
 }
 
-// The labels of a file: label i at the eight words from 8 i on. Zeros where the section is malformed.
+// The words of a file's labels, as many as a file may have, one behind the other.
+pub const WORDS: usize = 32 * LABEL_WORDS;
+
+// The labels of a file. Zeros behind them, and where the section is malformed.
 pub struct FileLabels {
     pub whole: bool,
-    pub words: [u64; 256],
+    pub words: [u64; WORDS],
 }
 
 // ---- the header
@@ -46,14 +50,14 @@ pub fn read_labels(bytes: &[u8], count: usize) -> FileLabels
     requires { ⌜ count ≤ 32 ⌝ }
     ensures { λ r. ⌜ r ≡ labelsFound (readLabels count (now (bytes .entry))) ⌝ }
 {
-    let mut words = [0u64; 256];
+    let mut words = [0u64; WORDS];
     let mut at: usize = 0;
     let mut i: usize = 0;
     while i < count {
         let Entry::Read(l, k) = label_entries::read_entry(&bytes[at..]) else {
             return no_labels();
         };
-        labels::put_label(l, &mut words, 8 * i);
+        labels::put_label(l, &mut words, LABEL_WORDS * i);
         at += k;
         i += 1;
     }
@@ -68,7 +72,7 @@ fn no_labels() -> FileLabels
 {
     FileLabels {
         whole: false,
-        words: [0u64; 256],
+        words: [0u64; WORDS],
     }
 }
 

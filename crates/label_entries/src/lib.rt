@@ -1,5 +1,6 @@
 // Label entries, as a file has them: read and written.
 use labels::Label;
+use labels::PRINCIPALS;
 use labels::Table;
 ghost use mathlib.Core.Path.{_≡_};
 ghost use mathlib.Core.List.{[], _∷_};
@@ -195,14 +196,12 @@ fn write_clauses(t: Table, out: &mut [u8])
     }
 }
 
-// How many principals there are, and sets of them.
-const PRINCIPALS: u64 = 8;
-
-const SETS: u64 = 256;
+// How many sets of principals there are.
+const SETS: u64 = 1 << PRINCIPALS;
 
 // Whether the set `x` is not in the table `t`, and is with any one more principal.
 fn maximal_false(t: Table, x: u64) -> bool
-    requires { ⌜ x < 256 ⌝ }
+    requires { ⌜ x < 2 ^ principals ⌝ }
     ensures { λ r. ⌜ r ≡ maximalFalse principals (whole t) x ⌝ }
 {
     if contains(t, x) {
@@ -220,7 +219,7 @@ fn maximal_false(t: Table, x: u64) -> bool
 
 // Whether `p` is in the set `x`, or `x` with `p` is in the table `t`.
 fn passes_with(t: Table, x: u64, p: u64) -> bool
-    requires { ⌜ (x < 256) × (p < principals) ⌝ }
+    requires { ⌜ (x < 2 ^ principals) × (p < principals) ⌝ }
     ensures { λ r. ⌜ r ≡ passesWith (whole t) x p ⌝ }
 {
     has(x, p) || contains(t, x | singleton(p))
@@ -238,7 +237,7 @@ fn singleton(p: u64) -> u64
 
 // Whether the set `x` is in the table `t`.
 fn contains(t: Table, x: u64) -> bool
-    requires { ⌜ x < 256 ⌝ }
+    requires { ⌜ x < 2 ^ principals ⌝ }
     ensures { λ r. ⌜ r ≡ bit (whole t) x ⌝ }
 {
     if x < 64 {

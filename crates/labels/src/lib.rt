@@ -6,7 +6,10 @@ ghost use lib.Bits.{bitAnd};
 ghost use lib.ListN.{length};
 ghost use Rattle.labels.specs.Tables.{tableImplies, tableAnd, tableOr, lowest};
 ghost use Rattle.labels.specs.Order.{flowTest, flows, join, meet, noLabel};
-ghost use Rattle.labels.specs.Words.{tableFrom, labelFrom, withTable, withLabel};
+ghost use Rattle.labels.specs.Words.{wordsInTable, wordsInLabel, tableFrom, labelFrom, withTable, withLabel};
+
+// How many principals there are.
+pub const PRINCIPALS: u64 = 8;
 
 // A formula's table: bit i of the whole stands for the set of principals whose mask is i. Four words, lowest first.
 pub struct Table {
@@ -131,10 +134,14 @@ pub fn low_table(n: u64) -> Table
     }
 }
 
-// ---- labels among words, four to a table
+// ---- tables and labels among words: how many words each takes, and where it is read and put
+
+pub const TABLE_WORDS: usize = 1 << (PRINCIPALS - 6);
+
+pub const LABEL_WORDS: usize = 2 * TABLE_WORDS;
 
 pub fn table_from(words: &[u64], b: usize) -> Table
-    requires { ⌜ b + 4 ≤ length (now words) ⌝ }
+    requires { ⌜ b + wordsInTable ≤ length (now words) ⌝ }
     ensures { λ r. ⌜ r ≡ tableFrom (now (words .entry)) b ⌝ }
 {
     Table {
@@ -146,17 +153,17 @@ pub fn table_from(words: &[u64], b: usize) -> Table
 }
 
 pub fn label_from(words: &[u64], b: usize) -> Label
-    requires { ⌜ b + 8 ≤ length (now words) ⌝ }
+    requires { ⌜ b + wordsInLabel ≤ length (now words) ⌝ }
     ensures { λ r. ⌜ r ≡ labelFrom (now (words .entry)) b ⌝ }
 {
     Label {
         secrecy: table_from(words, b),
-        integrity: table_from(words, b + 4),
+        integrity: table_from(words, b + TABLE_WORDS),
     }
 }
 
 pub fn put_table(t: Table, words: &mut [u64], b: usize)
-    requires { ⌜ b + 4 ≤ length (now words) ⌝ }
+    requires { ⌜ b + wordsInTable ≤ length (now words) ⌝ }
     ensures { λ _. ⌜ now (words .exit) ≡ withTable t (now (words .entry)) b ⌝ }
 {
     words[b] = t.word0;
@@ -166,9 +173,9 @@ pub fn put_table(t: Table, words: &mut [u64], b: usize)
 }
 
 pub fn put_label(l: Label, words: &mut [u64], b: usize)
-    requires { ⌜ b + 8 ≤ length (now words) ⌝ }
+    requires { ⌜ b + wordsInLabel ≤ length (now words) ⌝ }
     ensures { λ _. ⌜ now (words .exit) ≡ withLabel l (now (words .entry)) b ⌝ }
 {
     put_table(l.secrecy, words, b);
-    put_table(l.integrity, words, b + 4);
+    put_table(l.integrity, words, b + TABLE_WORDS);
 }

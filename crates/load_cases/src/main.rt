@@ -92,7 +92,7 @@ fn try_file(file: &[u8], size: usize) {
     if file.len() < size {
         return;
     }
-    let mut labels = [0u64; 256];
+    let mut labels = [0u64; file_sections::WORDS];
     tell(script_file::load(&file[0..size], &mut labels));
 }
 

@@ -23,8 +23,8 @@ use Rattle.day_file.proofs.Limits.{Fits}
 use Rattle.day_file.proofs.Tests.{AllJobs}
 use Rattle.day_file.proofs.Answers.{refusal-most, refusal-not-5, few-jobs, jobs-fit}
 use Rattle.admission.specs.Admission.{fits, dayAdmitted}
-use Rattle.day_jobs.specs.Running.{jobProgram, jobAccount, storeAfter, Turn, skipped, ran, dayTurns}
-use Rattle.day.specs.Views.{turnView, eachTurn, turnViews, dayView, dayReading}
+use Rattle.day_jobs.specs.Running.{jobProgram, jobAccount, jobAccountOver, storeAfter, Turn, skipped, ran, dayTurnsOver}
+use Rattle.day.specs.Views.{turnView, turnViewOver, eachTurn, turnViews, dayView, dayViewOver, dayReading}
 use Rattle.day.proofs.Views.{length-skipped}
 use Rattle.day_jobs.proofs.Turns.{turnsFrom, turn-skipped, turn-ran}
 use Rattle.noninterference.specs.Alike.{SameReads}
@@ -59,7 +59,7 @@ day-numbers bs =
 
 module _ (bs : List ℕ) where
   each-job : (js : List Job) (ads : List Bool) (σ : Store) → AllJobs (Fits (dayHeader bs) (dayLabel bs)) js → EachJob bs js ads σ
-  unfolding jobAccount
+  unfolding jobAccountOver
   each-job [] ads σ fit = tt
   each-job (j ∷ js) [] σ fit = tt
   each-job (j ∷ js) (true ∷ ads) σ fit = (charged (jobProgram bs j) (jobAccount bs j) σ (fit .0 .inputs-fit), each-job js ads (storeAfter bs j σ) (fit .1))
@@ -100,7 +100,7 @@ two-day-calls bs cs i b d r q out back e f A h = subst₂ (SameReads b d) (sym e
 module _ (Reads : Label → Bool) (bs : List ℕ) where
   -- a view has 206 bytes at least
   turn-least : (t : Turn) → recordsAt ≤ length (turnView Reads t)
-  unfolding turnView lengthOver
+  unfolding turnViewOver lengthOver
   turn-least skipped = omega (arith, length-skipped)
   turn-least (ran s o) = omega (arith, length-view Reads s o)
 
@@ -120,7 +120,7 @@ module _ (Reads : Label → Bool) (bs : List ℕ) where
       test true e = rw (turn-ran bs (jobFrom bs at) (jobsFrom bs n (at + 12)) left σ e) (first-least _ _)
 
 day-least : (bs : List ℕ) (i : ℕ) → dayRefusal bs ≡ 0 → recordsAt ≤ length (dayView bs i)
-unfolding dayView dayTurns dayAdmitted
+unfolding dayViewOver dayTurnsOver dayAdmitted
 day-least bs i none = views-least (λ l. flows l (dayLabel bs i)) bs _ _ _ _ (few-jobs bs none .0)
 
 day-bounded : (bs : List ℕ) (i : ℕ) (b : List ℕ) → Bounded DayRefusal (dayReading bs i b .answer)

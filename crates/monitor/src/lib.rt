@@ -14,7 +14,7 @@ ghost use Rattle.monitor.specs.Calls.{quoteCode};
 pub fn read(file: &[u8], reader: usize, buffer: &mut [u8]) -> Answer
     ensures { λ r. ⌜ reads r (now (buffer .exit)) ≡ reading (now (file .entry)) reader (now (buffer .entry)) ⌝ }
 {
-    let mut labels = [0u64; 256];
+    let mut labels = [0u64; file_sections::WORDS];
     let loaded = script_file::load(file, &mut labels);
     match loaded {
         Loaded::Refused(why) => Answer::Refused(script_file::number(why)),
@@ -37,7 +37,7 @@ pub extern "C" fn nechwalu_read(file: &[u8], reader: usize, buffer: &mut [u8]) -
 pub fn read_day(file: &[u8], reader: usize, buffer: &mut [u8]) -> Answer
     ensures { λ r. ⌜ reads r (now (buffer .exit)) ≡ dayReading (now (file .entry)) reader (now (buffer .entry)) ⌝ }
 {
-    let mut labels = [0u64; 256];
+    let mut labels = [0u64; file_sections::WORDS];
     let loaded = day_file::load_day(file, &mut labels);
     match loaded {
         day_file::Loaded::Refused(n) => Answer::Refused(n),

@@ -2,5 +2,6 @@
 pub mod Tables
 pub mod Order
 pub mod Entries
+pub mod Labels
 pub mod Views
 pub mod OldFiles

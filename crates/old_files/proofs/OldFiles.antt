@@ -1,16 +1,13 @@
 -- Old files run alike. A file that no check stops over six principals is stopped by none over eight; its run is the same but for
 -- the labels, each of which has its tables repeated in four words; and its view, for any reader, shows the same.
 use mathlib.Core.Bool.{Bool, true}
-use mathlib.Core.List.{List, [], _∷_, _++_, map}
-use mathlib.Core.Option.{Option, none, some}
+use mathlib.Core.List.{List, [], _∷_, _++_}
 use mathlib.Core.Path.{_≡_, refl, sym, ap, ap₂, _∙_}
 use Prim.Native.Nat.{ℕ, _≤_, _<_}
-use native.Mathlib.Omega.{arith}
 use borrow.Author.Tests.{lt-ltb, le-leb}
-use lib.Dec.{eqb}
-use lib.ListN.{length, drop, getD}
+use lib.ListN.{length, drop}
 use Rattle.labels.specs.Tables.{principals}
-use Rattle.labels.specs.Order.{flows, noLabel}
+use Rattle.labels.specs.Order.{flows}
 use Rattle.labels.specs.declared.Label.{Label}
 use Rattle.model.specs.State.{Outcome}
 use Rattle.model.specs.Inputs.{Input, inputs, inputSlots}
@@ -18,8 +15,7 @@ use Rattle.model.specs.Running.{runs, startControl, startAccount, startStore}
 use Rattle.relabelling.specs.Relabelled.{outcomeUnder}
 use Rattle.relabelling.specs.Keeps.{KeepsOrder, programIn}
 use Rattle.relabelling.proofs.Starts.{inputs-under, start-under}
-use Rattle.file_sections.specs.Sections.{orNone, labelBytesOf, labelsOver, labelOfOver, inputsOver}
-use Rattle.file_sections.specs.Checks.{present}
+use Rattle.file_sections.specs.Sections.{inputsOver}
 use Rattle.script_file.specs.Sections.{header, sections, recordBytes, codeBytes, labelAtOver, labelAt}
 use Rattle.script_file.specs.Checks.{passes1, passes2, passes3, passes4Over, passes5Over, passes6, passes7, lowest, refusalOver, refusal}
 use Rattle.script_file.specs.Program.{fileProgramOver, fileAccountOver, fileRunOver, fileRun}
@@ -29,76 +25,46 @@ use Rattle.view.specs.declared.Answer.the-variants.{Viewed}
 use Rattle.old_files.specs.Repeating.{repeated}
 use Rattle.old_files.specs.Contents.{Contents, contentsOf, fileContents, layout, contentsUnder}
 use Rattle.old_files.proofs.Tables.{low}
-use Rattle.old_files.proofs.Order.{order, lowOrder, low-keeps, flow-repeated, repeated-keeps}
-use Rattle.old_files.proofs.Entries.{LabelsAlike, labels-alike, at-repeated, at-low}
+use Rattle.old_files.proofs.Order.{order, lowOrder, low-keeps, repeated-keeps}
+use Rattle.old_files.proofs.Labels.{flows-alike, labels-still-pass, six-low, label-alike, still-flows}
 use Rattle.old_files.proofs.Views.{view-laid-out, contents-under, outcome-twice, contents-twice}
-
-some-labels : (o : Option (List Label)) → present o ≡ true → (ls : List Label) × (o ≡ some ls)
-some-labels none e = let z : _≡_ {A = ℕ} 0 1 = cc in absurd (omega arith)
-some-labels (some ls) e = (ls, refl)
 
 module _ (bs : List ℕ) (loads : refusalOver 6 bs ≡ 0) where
   abbrev checks : ℕ → List Bool
   checks n = passes1 bs ∷ passes2 bs ∷ passes3 bs ∷ passes4Over n bs ∷ passes5Over n bs ∷ passes6 bs ∷ passes7 bs ∷ []
 
-  -- over six it passes each
+  -- over six its labels pass
   labels-pass : passes4Over 6 bs ≡ true
   unfolding refusalOver
   labels-pass = lowest-each 0 (checks 6) loads .1 .1 .1 .0
-
-  start-passes : passes5Over 6 bs ≡ true
-  unfolding refusalOver
-  start-passes = lowest-each 0 (checks 6) loads .1 .1 .1 .1 .0
-
-  -- ── its labels ──
-
-  listed : (ls : List Label) × (labelsOver 6 (sections bs) bs ≡ some ls)
-  unfolding passes4Over
-  listed = some-labels (labelsOver 6 (sections bs) bs) labels-pass
-
-  alike : LabelsAlike (header bs .labels .count) (labelBytesOf (sections bs) bs) (listed .0)
-  unfolding labelsOver
-  alike = labels-alike (header bs .labels .count) (labelBytesOf (sections bs) bs) (listed .0) (listed .1)
-
-  over-eight : labelsOver principals (sections bs) bs ≡ some (map repeated (listed .0))
-  unfolding labelsOver
-  over-eight = alike .over-eight
 
   -- label i over six
   abbrev six : ℕ → Label
   six = labelAtOver 6 bs
 
-  six-is : (i : ℕ) → six i ≡ getD (listed .0) i noLabel
-  unfolding labelOfOver
-  six-is i = ap (λ (o : Option (List Label)). getD (orNone o) i noLabel) (listed .1)
+  low-six : (i : ℕ) → low (six i) ≡ six i
+  unfolding passes4Over
+  low-six = six-low (sections bs) bs labels-pass
 
-  six-low : (i : ℕ) → low (six i) ≡ six i
-  six-low i = ap low (six-is i) ∙ at-low (listed .0) (alike .are-low) i ∙ sym (six-is i)
-
-  pub label-alike : (i : ℕ) → labelAt bs i ≡ repeated (six i)
-  unfolding labelOfOver
-  label-alike i =
-      ap (λ (o : Option (List Label)). getD (orNone o) i noLabel) over-eight ∙ at-repeated (listed .0) i ∙ ap repeated (sym (six-is i))
-
-  flows-alike : (l m : Label) → flows (repeated l) (repeated m) ≡ flows (low l) (low m)
-  flows-alike l m = ap (λ (n : ℕ). eqb n 0) (flow-repeated l m)
+  pub is-repeated : (i : ℕ) → labelAt bs i ≡ repeated (six i)
+  unfolding passes4Over
+  is-repeated = label-alike (sections bs) bs labels-pass
 
   -- ── it loads ──
 
-  start-still-passes : passes5Over principals bs ≡ true
-  unfolding passes5Over
-  start-still-passes =
-      ap₂ flows (label-alike 0) (label-alike 1) ∙ flows-alike (six 0) (six 1) ∙ ap₂ flows (six-low 0) (six-low 1) ∙ start-passes
-
-  labels-still-pass : passes4Over principals bs ≡ true
+  label-entries-still-pass : passes4Over principals bs ≡ true
   unfolding passes4Over
-  labels-still-pass = ap present over-eight
+  label-entries-still-pass = labels-still-pass (sections bs) bs labels-pass
+
+  start-still-passes : passes5Over principals bs ≡ passes5Over 6 bs
+  unfolding passes4Over passes5Over
+  start-still-passes = still-flows (sections bs) bs labels-pass 0 1
 
   pub still-loads : refusal bs ≡ 0
   unfolding refusalOver
   still-loads =
       ap₂ (λ (s t : Bool). lowest 1 (passes1 bs ∷ passes2 bs ∷ passes3 bs ∷ s ∷ t ∷ passes6 bs ∷ passes7 bs ∷ []))
-      (labels-still-pass ∙ sym labels-pass) (start-still-passes ∙ sym start-passes) ∙ loads
+      (label-entries-still-pass ∙ sym labels-pass) start-still-passes ∙ loads
 
   -- ── its run ──
 
@@ -130,10 +96,10 @@ module _ (bs : List ℕ) (loads : refusalOver 6 bs ≡ 0) where
   run-with n = refl
 
   six-run : fileRunOver 6 bs ≡ outcomeUnder low lowRun
-  six-run = run-with 6 ∙ ap runWith (λ k i. sym (six-low i) k) ∙ mapped low low-keeps
+  six-run = run-with 6 ∙ ap runWith (λ k i. sym (low-six i) k) ∙ mapped low low-keeps
 
   eight-run : fileRun bs ≡ outcomeUnder repeated lowRun
-  eight-run = run-with principals ∙ ap runWith (λ k i. label-alike i k) ∙ mapped repeated repeated-keeps
+  eight-run = run-with principals ∙ ap runWith (λ k i. is-repeated i k) ∙ mapped repeated repeated-keeps
 
   -- ending, account and every record
   pub same-run : fileRun bs ≡ outcomeUnder repeated (fileRunOver 6 bs)
@@ -151,12 +117,12 @@ module _ (bs : List ℕ) (loads : refusalOver 6 bs ≡ 0) where
 
     six-contents : fileContents 6 bs i ≡ contentsUnder low both
     six-contents =
-        ap₂ (λ (r : Label) (o : Outcome). contentsOf (λ l. flows l r) (header bs .steps) o) (sym (six-low i)) six-run
+        ap₂ (λ (r : Label) (o : Outcome). contentsOf (λ l. flows l r) (header bs .steps) o) (sym (low-six i)) six-run
         ∙ contents-under low sees (λ l. flows l (low (six i))) (λ l. refl) (header bs .steps) lowRun
 
     eight-contents : fileContents principals bs i ≡ contentsUnder repeated both
     eight-contents =
-        ap₂ (λ (r : Label) (o : Outcome). contentsOf (λ l. flows l r) (header bs .steps) o) (label-alike i) eight-run
+        ap₂ (λ (r : Label) (o : Outcome). contentsOf (λ l. flows l r) (header bs .steps) o) (is-repeated i) eight-run
         ∙ contents-under repeated sees (λ l. flows l (repeated (six i))) (λ l. flows-alike l (six i)) (header bs .steps) lowRun
 
     -- the same endings, counts, places, kinds, numbers and handles, and the repeated labels

@@ -260,7 +260,7 @@ pub fn two_labels(f: Pair, y: Datum, x: Datum) -> Decision
 
 // ---- the file's own values
 
-// Label i of the file: the eight words from 8 i on.
+// Label i of the file.
 pub fn label_at(labels: &[u64], i: usize) -> Label
     requires { ⌜ length (now labels) ≡ fileWords ⌝ }
     ensures { λ r. ⌜ r ≡ labelIn (now (labels .entry)) i ⌝ }
@@ -268,7 +268,7 @@ pub fn label_at(labels: &[u64], i: usize) -> Label
     if 32 <= i {
         return labels::no_label();
     }
-    labels::label_from(labels, 8 * i)
+    labels::label_from(labels, labels::LABEL_WORDS * i)
 }
 
 // The kind of an input record, by the first of its six bytes.

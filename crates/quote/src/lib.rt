@@ -164,7 +164,7 @@ fn quote_loaded(file: &[u8], h: Header) -> Quote
 pub fn quote_file(file: &[u8]) -> Quote
     ensures { λ r. ⌜ r ≡ quoting (now (file .entry)) ⌝ }
 {
-    let mut labels = [0u64; 256];
+    let mut labels = [0u64; file_sections::WORDS];
     let loaded = script_file::load(file, &mut labels);
     match loaded {
         Loaded::Refused(why) => Quote::Refused(script_file::number(why)),

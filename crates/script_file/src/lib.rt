@@ -132,7 +132,10 @@ fn start_ok(words: &[u64]) -> bool
     requires { ⌜ length (now words) ≡ fileWords ⌝ }
     ensures { λ r. ⌜ r ≡ flows (labelIn (now (words .entry)) 0) (labelIn (now (words .entry)) 1) ⌝ }
 {
-    labels::flows(labels::label_from(words, 0), labels::label_from(words, 8))
+    labels::flows(
+        labels::label_from(words, 0),
+        labels::label_from(words, labels::LABEL_WORDS),
+    )
 }
 
 // ---- the file
@@ -140,7 +143,7 @@ fn start_ok(words: &[u64]) -> bool
 // Loads a file of any length. The answer is the refusal of the first check that stops it, or its header; the code and the
 // input records stay in the file, where the header says. The labels of a file that loads are put into `labels`, label i at
 // the eight words from 8 i on, and 0 behind them; a refusal leaves `labels` as it was.
-pub fn load(file: &[u8], labels: &mut [u64; 256]) -> Loaded
+pub fn load(file: &[u8], labels: &mut [u64; file_sections::WORDS]) -> Loaded
     ensures { λ r. ⌜ (r ≡ loaded (now (file .entry))) × (now (labels .exit) ≡ wordsAfter (now (file .entry)) (now (labels .entry))) ⌝ }
 {
     if !size_ok(file.len()) {

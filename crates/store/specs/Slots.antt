@@ -1,10 +1,10 @@
--- The records that a list of words holds: eighteen words to a place, 256 places.
+-- The records that a list of words holds, place by place.
 use mathlib.Core.Bool.{cond}
 use mathlib.Core.List.{List, [], _∷_, map}
-use Prim.Native.Nat.{ℕ, zero, suc, _%_}
+use Prim.Native.Nat.{ℕ, zero, suc, _+_, _*_, _%_}
 use lib.Dec.{eqb}
 use lib.ListN.{getD, take, drop}
-use Rattle.labels.specs.Words.{tableFrom, labelFrom}
+use Rattle.labels.specs.Words.{wordsInTable, wordsInLabel, tableFrom, labelFrom}
 use Rattle.labels.specs.declared.Table.{Table}
 use Rattle.labels.specs.declared.Label.{Label}
 use Rattle.model.specs.State.{Store}
@@ -19,13 +19,26 @@ use Rattle.model.specs.declared.Slot.the-variants.{Empty, Full}
 abbrev pub places : ℕ
 places = 256
 
+-- ── a place's words: kind (0 where it is empty), label, contents (what they are, and two tables) ──
+
+-- where the parts lie behind the kind, and how many words there are to a place and to all
+abbrev pub labelAt : ℕ
+labelAt = 1
+
+abbrev pub tagAt : ℕ
+tagAt = labelAt + wordsInLabel
+
+abbrev pub firstAt : ℕ
+firstAt = tagAt + 1
+
+abbrev pub secondAt : ℕ
+secondAt = firstAt + wordsInTable
+
 abbrev pub width : ℕ
-width = 18
+width = secondAt + wordsInTable
 
 abbrev pub words : ℕ
-words = 4608
-
--- ── a place's words: kind (0 where it is empty), label, contents ──
+words = width * places
 
 abbrev pub low : ℕ → ℕ
 low x = x % 4294967296
@@ -49,7 +62,7 @@ slotOf k l t x y =
     (Full (record { kind = cond (eqb k 1) Sealed Reference; label = l; contents = contentsIn t x y }))
 
 abbrev pub slotWords : List ℕ → Slot
-slotWords ws = slotOf (getD ws 0 0) (labelFrom ws 1) (getD ws 9 0) (tableFrom ws 10) (tableFrom ws 14)
+slotWords ws = slotOf (getD ws 0 0) (labelFrom ws labelAt) (getD ws tagAt 0) (tableFrom ws firstAt) (tableFrom ws secondAt)
 
 -- a list cut into n parts of w elements
 module _ {A : Type 0} where

@@ -1,5 +1,7 @@
-// The records of a run, in words that the caller lends: eighteen words to a place, 256 places.
+// The records of a run, in words that the caller lends, place by place.
+use labels::LABEL_WORDS;
 use labels::Label;
+use labels::TABLE_WORDS;
 use labels::Table;
 use model::Contents;
 use model::Datum;
@@ -12,22 +14,21 @@ ghost use Rattle.model.specs.State.{at};
 ghost use Rattle.store.specs.Slots.{words, kindWord, contentsIn, slotOf, slots};
 ghost use Rattle.store.specs.Records.{recordLabel, recordValue, rewritten};
 
-// How many places there are, how many words each has: kind, label (eight), and contents (what they are, and two tables); and a
-// store's words.
 pub const PLACES: usize = 256;
 
-const WIDTH: usize = 18;
-
-pub const STORE: usize = WIDTH * PLACES;
-
-// Where a place's parts lie.
+// Where the parts of a place lie behind its kind: the label, what the contents are, and the two tables of these. Then how many
+// words there are to a place, and to a store.
 const LABEL: usize = 1;
 
-const TAG: usize = 9;
+const TAG: usize = LABEL + LABEL_WORDS;
 
-const FIRST: usize = 10;
+const FIRST: usize = TAG + 1;
 
-const SECOND: usize = 14;
+const SECOND: usize = FIRST + TABLE_WORDS;
+
+const WIDTH: usize = SECOND + TABLE_WORDS;
+
+pub const STORE: usize = WIDTH * PLACES;
 
 // The words of a record's contents: what they are, and two tables of it. A number or a place is in a table's lowest word.
 struct Words {

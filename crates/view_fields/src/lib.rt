@@ -34,7 +34,7 @@ const TWO_WORDS: usize = 2 * WORD;
 
 const THREE_WORDS: usize = 3 * WORD;
 
-pub const TABLE: usize = 4 * WORD;
+pub const TABLE: usize = labels::TABLE_WORDS * WORD;
 
 pub const LABEL: usize = 2 * TABLE;
 

@@ -9,7 +9,7 @@ use borrow.Author.Tests.{not-true, not-false}
 use Rattle.file_sections.specs.Words.{labelsFound}
 use Rattle.file_sections.proofs.Labels.{length-found}
 use Rattle.file_sections.specs.declared.FileLabels.{FileLabels}
-use Rattle.day_file.specs.Checks.{passes1, passes2, passes3, passes4, passes10, passes6, passes7, dayRefusal}
+use Rattle.day_file.specs.Checks.{passes1, passes2, passes3, passes4, passes10, passes6, passes7, dayRefusal, dayRefusalOver}
 use Rattle.day_file.specs.Sections.{dayHeader, dayLabels}
 use Rattle.day_file.specs.declared.Header.{Header}
 use Rattle.day_file.specs.declared.Loaded.the-variants.{Day}
@@ -45,7 +45,7 @@ module _ (bs : List ℕ) where
   At7 = Comes 7 (passes7 bs) 0 (dayRefusal bs)
 
   at1 : At1
-  unfolding dayRefusal
+  unfolding dayRefusalOver
   at1 = record { to = refl }
 
 -- ── the header, and what each check finds ──

@@ -11,7 +11,7 @@ use Rattle.view_fields.specs.Writing.{over}
 use Rattle.view.specs.Layout.{view}
 use Rattle.view.specs.Writing.{observes, finished}
 use Rattle.lines.specs.Lines.{line}
-use Rattle.day.specs.Views.{skippedView, turnView}
+use Rattle.day.specs.Views.{skippedView, turnView, turnViewOver}
 use Rattle.day_turns.specs.Keeping.{turnOf}
 use Rattle.day_lines.proofs.Jobs.{skipped-line, run-line-most}
 use borrow.Author.Needs.{needs}
@@ -30,11 +30,11 @@ module _ (b : tie.Start) where
   run = view R (b .args .steps) (finished (b .args .end .finish) (slots (b .args .store .now)))
 
   of-run : b .args .end .ran ≡ true → run ≡ shown
-  unfolding turnView
+  unfolding turnViewOver
   of-run e = rw e
 
   of-skipped : b .args .end .ran ≡ false → skippedView ≡ shown
-  unfolding turnView
+  unfolding turnViewOver
   of-skipped e = rw e
 
 ran : tie.Need-returns

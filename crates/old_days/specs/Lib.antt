@@ -1,0 +1,2 @@
+-- What is said of days with labels over six principals.
+pub mod Contents
