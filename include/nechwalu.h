@@ -90,7 +90,7 @@
 #define NECHWALU_ENDING_RESULT 1
 #define NECHWALU_ENDING_FAULT 2
 #define NECHWALU_ENDING_SPENT 3
-#define NECHWALU_ENDING_SKIPPED 4 /* days only: the job declares more steps than the day has left */
+#define NECHWALU_ENDING_SKIPPED 4 /* days only: the job declares more steps than its caller has left */
 
 /* Kinds of values, and what their words hold. */
 #define NECHWALU_VALUE_NONE 0      /* 0 and 0 */

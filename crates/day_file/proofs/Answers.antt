@@ -8,7 +8,7 @@ use native.Mathlib.Omega.{arith}
 use borrow.Author.Tests.{leb-true}
 use lib.Dec.{eqb·suc-zero}
 use lib.ListN.{length}
-use Rattle.model.specs.Words.{labelIn}
+use Rattle.model.specs.Words.{labelIn, fileWords}
 use Rattle.file_sections.specs.Sections.{orNone}
 use Rattle.file_sections.specs.Words.{labelWords}
 use Rattle.file_sections.proofs.Tests.{every-each}
@@ -183,7 +183,7 @@ module _ (bs : List ℕ) where
       record { none = none; numbers = day-header h e; labels = rw none at w }
 
   -- the words are as many as before
-  pub words-lent : (was ws : List ℕ) → length was ≡ 256 → ws ≡ dayWords bs was → length ws ≡ 256
+  pub words-lent : (was ws : List ℕ) → length was ≡ fileWords → ws ≡ dayWords bs was → length ws ≡ fileWords
   words-lent = length-lent (dayRefusal bs) (dayLabels bs)
 
   -- what a refusal, and what a day that loads, promise of the answer and of the words

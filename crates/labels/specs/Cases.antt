@@ -15,9 +15,10 @@ pub record Case : Type 0 where
   pub number : ℕ
   pub holds : Bool
 
+-- the last is looked at first
 abbrev pub allHold : List Case → Bool
 allHold [] = true
-allHold (c ∷ cs) = c .holds && allHold cs
+allHold (c ∷ cs) = allHold cs && c .holds
 
 abbrev sameTable : Table → Table → Bool
 sameTable a b =

@@ -15,7 +15,7 @@ use Rattle.machine.specs.Steps.{Finishes}
 use Rattle.model.specs.declared.Finished.{Finished}
 use Rattle.model.specs.Words.{labelIn}
 use Rattle.operands.specs.Program.{count, program}
-use Rattle.store.specs.Slots.{parts, slots}
+use Rattle.store.specs.Slots.{words, parts, slots}
 use Rattle.script_file.specs.Sections.{header, recordBytes, codeBytes, fileLabels, labelAt}
 use Rattle.script_file.specs.Checks.{refusal}
 use Rattle.script_file.specs.Loading.{refusalNumber, loaded, wordsAfter}
@@ -90,7 +90,7 @@ module _ (bs : List ℕ) (h : Header) (ws : List ℕ) (w : Loads bs h ws) where
   run-is l c σ el ec es =
       rw (el, ec, es, records-are, code-is, w .numbers, w .labels, program-is bs (w .none), labels-are bs (w .none), records-counted bs (w .none))
 
-pub no-records : slots (replicate 4608 0) ≡ noRecords
+pub no-records : slots (replicate words 0) ≡ noRecords
 unfolding slots parts
 no-records = refl
 

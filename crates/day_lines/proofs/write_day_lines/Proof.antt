@@ -5,6 +5,7 @@ use mathlib.Core.Path.{_≡_, ap, ap₂, subst, _∙_}
 use Prim.Native.Nat.{ℕ, _+_, _-_, _*_, _≤_, _<_}
 use native.Mathlib.Omega.{arith}
 use lib.ListN.{length, getD, take, drop}
+use Rattle.store.specs.Slots.{words}
 use Rattle.labels.specs.declared.Label.{Label}
 use Rattle.view_fields.specs.Writing.{over}
 use Rattle.view_fields.proofs.Buffers.{part}
@@ -98,7 +99,7 @@ module _ (i : Inside) where
   at-below = omega (arith, head .loop .inv .few, below, few begun)
 
   -- its store is there
-  there : 4608 * k + 4608 ≤ length (begun .args .stores .now)
+  there : words * k + words ≤ length (begun .args .stores .now)
   there = omega (arith, small, begun .pre .3)
 
 write-job-line-requires : tie.Need-write-job-line-requires Inv-loop μ-loop
@@ -116,7 +117,7 @@ module _ (w : tie.After-write-job-line Inv-loop μ-loop) where
   job-read = search
 
   -- what is kept of the job, as the code has it and as the definition says
-  turn-is : turnOf (job-read .job-at .result .steps) (getD (begun inside .args .ends .jobs) (k inside) none) (take (4608 * k inside + 4608 - 4608 * k inside) (drop (4608 * k inside) (begun inside .args .stores .now)))
+  turn-is : turnOf (job-read .job-at .result .steps) (getD (begun inside .args .ends .jobs) (k inside) none) (take (words * k inside + words - words * k inside) (drop (words * k inside) (begun inside .args .stores .now)))
       ≡ turnOf (jobFrom (bs (begun inside)) (dayHeader (bs (begun inside)) .jobs .offset + 12 * k inside) .steps) (getD (begun inside .args .ends .jobs) (k inside) none) (storeAt (k inside) (begun inside .args .stores .now))
   turn-is =
       ap₂ (λ (s : ℕ) (ws : List ℕ). turnOf s (getD (begun inside .args .ends .jobs) (k inside) none) ws)

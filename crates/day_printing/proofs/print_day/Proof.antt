@@ -4,6 +4,7 @@ use Prim.Native.Nat.{ℕ, _≤_}
 use native.Mathlib.Nat.{le-of-eq}
 use native.Mathlib.Omega.{arith}
 use lib.ListN.{length, replicate, length-replicate}
+use Rattle.model.specs.Words.{fileWords}
 use Rattle.file_sections.proofs.Labels.{length-lent}
 use Rattle.day_file.specs.Sections.{dayLabels}
 use Rattle.day_file.specs.Checks.{dayRefusal}
@@ -24,8 +25,8 @@ module _ (l : tie.After-load-day) where
   abbrev begun : tie.Start
   begun = search
 
-  as-many : length (l .load-day .last .1 .0) ≡ 256
-  as-many = length-lent (dayRefusal (begun .args .file .now)) (dayLabels (begun .args .file .now)) (replicate 256 0) _ refl (l .load-day .ensures .1)
+  as-many : length (l .load-day .last .1 .0) ≡ fileWords
+  as-many = length-lent (dayRefusal (begun .args .file .now)) (dayLabels (begun .args .file .now)) (replicate fileWords 0) _ refl (l .load-day .ensures .1)
 
 small : (f : tie.After-loaded) → f .loaded .given .0 .0 ≤ 10
 small f = let l : tie.After-load-day = search in refused-number _ _ (sym (f .loaded .given .1) ∙ l .load-day .ensures .0) .2

@@ -3,16 +3,17 @@ use mathlib.Core.Path.{refl, _∙_}
 use Prim.Native.Nat.{_-_, _≤_}
 use native.Mathlib.Omega.{arith}
 use lib.ListN.{drop, drop-of-length-le}
+use Rattle.store.specs.Slots.{words}
 use Rattle.view_fields.proofs.Buffers.{Writing, start, byte, ends, from-here, over-all}
 use Rattle.day_turns.proofs.copy_store.Statement.{statement}
 use Rattle.day_turns.proofs.copy_store.Tie as tie
 
 -- i words are copied
 abbrev Inv-loop : tie.InvT-loop
-Inv-loop from to₀ i₀ to i = (i ≤ 4608) × Writing from (drop i from) to₀ to i
+Inv-loop from to₀ i₀ to i = (i ≤ words) × Writing from (drop i from) to₀ to i
 
 abbrev μ-loop : tie.MeasureT-loop
-μ-loop from to₀ i₀ to i = 4608 - i
+μ-loop from to₀ i₀ to i = words - i
 
 abbrev Start : Type 0
 Start = tie.Start Inv-loop μ-loop

@@ -97,7 +97,7 @@ module _ (i : Inside) where
   small : k < 16
   small = omega (arith, below, few begun)
 
-  room : 4608 * k + 4608 ≤ length (head .loop .stores)
+  room : words * k + words ≤ length (head .loop .stores)
   room = omega (arith, small, head .loop .inv .room)
 
   starts-below : h begun .jobs .offset + 12 * k < 70000

@@ -3,6 +3,7 @@ use mathlib.Core.Path.{_≡_, refl, sym, _∙_}
 use Prim.Native.Nat.{_<_}
 use native.Mathlib.Omega.{arith}
 use lib.ListN.{length, replicate}
+use Rattle.model.specs.Words.{fileWords}
 use Rattle.reading.specs.Answers.{Loads}
 use Rattle.reading.proofs.Calls.{read-loads, length-words}
 use Rattle.file_lines.proofs.Printed.{one-digit, refused-printed, lines-printed}
@@ -11,8 +12,8 @@ use Rattle.file_lines.proofs.write_printed.Statement.{statement}
 use Rattle.file_lines.proofs.write_printed.Tie as tie
 
 module _ (l : tie.After-load) where
-  as-many : length (l .load .last .1 .0) ≡ 256
-  as-many = length-words _ (replicate 256 0) _ refl (l .load .ensures .1)
+  as-many : length (l .load .last .1 .0) ≡ fileWords
+  as-many = length-words _ (replicate fileWords 0) _ refl (l .load .ensures .1)
 
 module _ (n : tie.After-number) where
   small : n .number .result < 10

@@ -1,14 +1,15 @@
 -- `monitor::read` meets its contract.
 use mathlib.Core.Path.{_≡_, refl, sym, _∙_}
 use lib.ListN.{length, replicate}
+use Rattle.model.specs.Words.{fileWords}
 use Rattle.reading.proofs.Calls.{read-stopped, read-loads, length-words}
 use borrow.Author.Needs.{needs}
 use Rattle.monitor.proofs.read.Statement.{statement}
 use Rattle.monitor.proofs.read.Tie as tie
 
 module _ (l : tie.After-load) where
-  as-many : length (l .load .last .1 .0) ≡ 256
-  as-many = length-words _ (replicate 256 0) _ refl (l .load .ensures .1)
+  as-many : length (l .load .last .1 .0) ≡ fileWords
+  as-many = length-words _ (replicate fileWords 0) _ refl (l .load .ensures .1)
 
 read-loaded-requires : tie.Need-read-loaded-requires
 read-loaded-requires c κs =

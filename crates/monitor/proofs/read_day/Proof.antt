@@ -1,6 +1,7 @@
 -- `monitor::read_day` meets its contract.
 use mathlib.Core.Path.{_≡_, refl, sym, _∙_}
 use lib.ListN.{length, replicate}
+use Rattle.model.specs.Words.{fileWords}
 use Rattle.day_file.proofs.Answers.{day-loads, words-lent}
 use Rattle.day.proofs.Answers.{read-stopped}
 use borrow.Author.Needs.{needs}
@@ -8,8 +9,8 @@ use Rattle.monitor.proofs.read_day.Statement.{statement}
 use Rattle.monitor.proofs.read_day.Tie as tie
 
 module _ (l : tie.After-load-day) where
-  as-many : length (l .load-day .last .1 .0) ≡ 256
-  as-many = words-lent _ (replicate 256 0) _ refl (l .load-day .ensures .1)
+  as-many : length (l .load-day .last .1 .0) ≡ fileWords
+  as-many = words-lent _ (replicate fileWords 0) _ refl (l .load-day .ensures .1)
 
 read-loaded-requires : tie.Need-read-loaded-requires
 read-loaded-requires c κs =

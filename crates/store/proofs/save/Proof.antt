@@ -6,7 +6,7 @@ use denote.Ref.{now}
 use native.Mathlib.Omega.{arith}
 use lib.ListN.{length, set, length-set}
 use Rattle.labels.specs.Words.{withTable}
-use Rattle.store.specs.Slots.{words, slots}
+use Rattle.store.specs.Slots.{tagAt, firstAt, secondAt, width, words, slots}
 use Rattle.store.proofs.Places.{slot-put, slot-keep, slot-back}
 use borrow.Author.Needs.{needs}
 use Rattle.store.proofs.save.Statement.{statement}
@@ -18,7 +18,7 @@ module _ (l : tie.After-put-label) where
   long =
       let kind : tie.After-kind-word = search in
       let start : tie.Start = search in
-      l .put-label .kept .1 .0 ∙ length-set (now (start .args .store)) (18 * start .args .p) (kind .kind-word .result) ∙ start .pre
+      l .put-label .kept .1 .0 ∙ length-set (now (start .args .store)) (width * start .args .p) (kind .kind-word .result) ∙ start .pre
 
 module _ (f : tie.After-put-table) where
   still-long : length (f .put-table .last .1 .0) ≡ words
@@ -26,7 +26,7 @@ module _ (f : tie.After-put-table) where
       let l : tie.After-put-label = search in
       let held : tie.After-contents-words = search in
       let start : tie.Start = search in
-      f .put-table .kept .1 .0 ∙ length-set (l .put-label .last .1 .0) (18 * start .args .p + 9) (held .contents-words .result .tag) ∙ long l
+      f .put-table .kept .1 .0 ∙ length-set (l .put-label .last .1 .0) (width * start .args .p + tagAt) (held .contents-words .result .tag) ∙ long l
 
 place-written : tie.Need-returns
 place-written c =
@@ -41,8 +41,8 @@ place-written c =
     let r = start .args .r in
     let w = held .contents-words .result in
     ap slots (second .put-table2 .ensures
-    ∙ ap (λ (us : List ℕ). withTable (w .second) us (18 * p + 14)) (first .put-table .ensures
-    ∙ ap (λ (us : List ℕ). withTable (w .first) (set us (18 * p + 9) (w .tag)) (18 * p + 10)) (label .put-label .ensures)))
+    ∙ ap (λ (us : List ℕ). withTable (w .second) us (width * p + secondAt)) (first .put-table .ensures
+    ∙ ap (λ (us : List ℕ). withTable (w .first) (set us (width * p + tagAt) (w .tag)) (width * p + firstAt)) (label .put-label .ensures)))
     ∙ slot-put ws p _ (r .label) (w .tag) (w .first) (w .second) (omega arith) (start .pre)
     ∙ ap (set (slots ws) p) (rw (kind .kind-word .ensures) (slot-back (r .kind) (r .label) (r .contents) (w .tag) (w .first) (w .second) (held .contents-words .ensures)))
 
