@@ -221,8 +221,8 @@ fn spans_ok(file: &[u8], h: Header) -> bool
 // ---- the file
 
 // Loads a day of any length. The answer is the number of the first check that stops it, or its header; the jobs, the code
-// and the input records stay in the file, where the header says. The labels of a day that loads are put into `labels`,
-// label i at the eight words from 8 i on, and 0 behind them; a refusal leaves `labels` as it was.
+// and the input records stay in the file, where the header says. The labels of a day that loads are put into `labels`, one
+// behind the other, and 0 behind them; a refusal leaves `labels` as it was.
 pub fn load_day(file: &[u8], labels: &mut [u64; file_sections::WORDS]) -> Loaded
     ensures { λ r. ⌜ (r ≡ loadedDay (now (file .entry))) × (now (labels .exit) ≡ dayWords (now (file .entry)) (now (labels .entry))) ⌝ }
 {

@@ -14,7 +14,7 @@ use Rattle.labels.specs.declared.Label.{Label}
 use Rattle.label_entries.specs.declared.Entry.{Entry}
 use Rattle.label_entries.specs.declared.Entry.the-variants.{Read, Malformed}
 use Rattle.labels.specs.Order.{noLabel}
-use Rattle.labels.specs.Words.{withLabel}
+use Rattle.labels.specs.Words.{wordsInLabel, withLabel}
 use Rattle.labels.proofs.Words.{labelList, label-sets, label-past, labels-alike}
 use Rattle.model.specs.Words.{labelIn, fileWords}
 use Rattle.model.proofs.Tests.{cond-one}
@@ -25,7 +25,7 @@ use Rattle.file_sections.specs.declared.FileLabels.{FileLabels}
 -- ── filling the words ──
 
 abbrev pub putLabel : ℕ → Label → List ℕ → List ℕ
-putLabel i l ws = withLabel l ws (8 * i)
+putLabel i l ws = withLabel l ws (wordsInLabel * i)
 
 abbrev putLabels : ℕ → List Label → List ℕ → List ℕ
 putLabels i [] ws = ws
@@ -48,10 +48,10 @@ sets-padded n (v ∷ vs) xs i e =
     ∙ sets-padded n vs (xs ++ v ∷ []) (suc i) (length-append xs (v ∷ []) ∙ ap (λ (k : ℕ). k + 1) e ∙ (let f : i + 1 ≡ suc i = omega arith in f))
     ∙ ap (padded n) (append-assoc xs (v ∷ []) vs)
 
-put-padded : (n : ℕ) (ls : List Label) (i : ℕ) (xs : List ℕ) → length xs ≡ 8 * i → putLabels i ls (padded n xs) ≡ padded n (xs ++ tables ls)
+put-padded : (n : ℕ) (ls : List Label) (i : ℕ) (xs : List ℕ) → length xs ≡ wordsInLabel * i → putLabels i ls (padded n xs) ≡ padded n (xs ++ tables ls)
 put-padded n [] i xs e = ap (padded n) (sym (append-nil xs))
 put-padded n (l ∷ ls) i xs e =
-    ap (putLabels (i + 1) ls) (label-sets l (padded n xs) (8 * i) [] ∙ sets-padded n (labelList l []) xs (8 * i) e)
+    ap (putLabels (i + 1) ls) (label-sets l (padded n xs) (wordsInLabel * i) [] ∙ sets-padded n (labelList l []) xs (wordsInLabel * i) e)
     ∙ put-padded n ls (i + 1) (xs ++ labelList l []) (length-append xs (labelList l []) ∙ omega arith)
     ∙ ap (padded n) (append-assoc xs (labelList l []) (tables ls))
 
@@ -86,12 +86,12 @@ bytes-left i ws (b ∷ bs) h = refl
 
 tables-at : (ls : List Label) (i : ℕ) → labelIn (tables ls) i ≡ getD ls i noLabel
 unfolding labelIn
-tables-at [] i = label-past [] (8 * i) (omega arith)
+tables-at [] i = label-past [] (wordsInLabel * i) (omega arith)
 tables-at (l ∷ ls) zero = refl
 tables-at (l ∷ ls) (suc i) =
-    labels-alike (tables (l ∷ ls)) (tables ls) (8 * suc i) (8 * i)
-    (λ j h. ap (λ (k : ℕ). getD (tables (l ∷ ls)) k 0) (let e : 8 * suc i + j ≡ 8 + (8 * i + j) = omega arith in e)
-    ∙ getD-append-add (labelList l []) (tables ls) (8 * i + j) 0)
+    labels-alike (tables (l ∷ ls)) (tables ls) (wordsInLabel * suc i) (wordsInLabel * i)
+    (λ j h. ap (λ (k : ℕ). getD (tables (l ∷ ls)) k 0) (let e : wordsInLabel * suc i + j ≡ wordsInLabel + (wordsInLabel * i + j) = omega arith in e)
+    ∙ getD-append-add (labelList l []) (tables ls) (wordsInLabel * i + j) 0)
     ∙ tables-at ls i
 
 padded-at : (n : ℕ) (xs : List ℕ) (k : ℕ) → k < n → getD (padded n xs) k 0 ≡ getD xs k 0
@@ -101,11 +101,11 @@ padded-at (suc n) [] (suc k) h = padded-at n [] k (omega arith)
 padded-at (suc n) (x ∷ xs) zero h = refl
 padded-at (suc n) (x ∷ xs) (suc k) h = padded-at n xs k (omega arith)
 
--- label i of a file stands at the words from 8 i on
+-- label i of a file stands behind the words of those before it
 pub words-hold : (ls : List Label) (i : ℕ) → i < 32 → labelIn (labelWords ls) i ≡ getD ls i noLabel
 unfolding labelIn labelWords
 words-hold ls i h =
-    labels-alike (padded fileWords (tables ls)) (tables ls) (8 * i) (8 * i) (λ j q. padded-at fileWords (tables ls) (8 * i + j) (omega arith))
+    labels-alike (padded fileWords (tables ls)) (tables ls) (wordsInLabel * i) (wordsInLabel * i) (λ j q. padded-at fileWords (tables ls) (wordsInLabel * i + j) (omega arith))
     ∙ tables-at ls i
 
 -- ── how many labels there are ──
@@ -137,7 +137,7 @@ words-hold-any ls few i = by (ltb i 32) refl where
   by true e = words-hold ls i (ltb-true i 32 e)
   by false e =
       let far : 32 ≤ i = ltb-false i 32 e in
-      label-past (padded fileWords (tables ls)) (8 * i) (let e = length-padded fileWords (tables ls) in omega arith)
+      label-past (padded fileWords (tables ls)) (wordsInLabel * i) (let e = length-padded fileWords (tables ls) in omega arith)
       ∙ sym (List·getD-eq-default ls noLabel {n = i} (omega arith))
 
 -- The words of a file with at most 32 labels hold its labels, at any index.

@@ -134,8 +134,9 @@ pub fn low_table(n: u64) -> Table
     }
 }
 
-// ---- tables and labels among words: how many words each takes, and where it is read and put
+// ---- tables and labels among words
 
+// How many words each takes. A word has a bit for each set of the first six principals.
 pub const TABLE_WORDS: usize = 1 << (PRINCIPALS - 6);
 
 pub const LABEL_WORDS: usize = 2 * TABLE_WORDS;

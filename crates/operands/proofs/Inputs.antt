@@ -10,6 +10,7 @@ use lib.Dec.{ltb}
 use borrow.Author.Tests.{lt-ltb, le-ltb, ltb-true, ltb-false}
 use lib.ListN.{length, getD}
 use Rattle.labels.specs.Order.{noLabel}
+use Rattle.labels.specs.Words.{wordsInLabel}
 use Rattle.labels.specs.declared.Label.{Label}
 use Rattle.labels.proofs.Words.{label-past}
 use Rattle.model.specs.declared.Kind.the-variants.{Reference}
@@ -28,7 +29,7 @@ inputAt rs i = cond (ltb i (count rs)) (Handle (kindOf (byte rs (6 * i))) i) (Nu
 
 pub label-out : (ws : List ℕ) (i : ℕ) → length ws ≡ fileWords → 32 ≤ i → noLabel ≡ labelIn ws i
 unfolding labelIn
-label-out ws i e h = sym (label-past ws (8 * i) (omega arith))
+label-out ws i e h = sym (label-past ws (wordsInLabel * i) (omega arith))
 
 input-handle : (ls : ℕ → Label) (bs : List ℕ) (n b p i : ℕ) → i < n
     → getD (handles p (inputs ls bs n b)) i (number 0) ≡ value (Handle (kindOf (byte bs (b + 6 * i))) (p + i))

@@ -141,8 +141,8 @@ fn start_ok(words: &[u64]) -> bool
 // ---- the file
 
 // Loads a file of any length. The answer is the refusal of the first check that stops it, or its header; the code and the
-// input records stay in the file, where the header says. The labels of a file that loads are put into `labels`, label i at
-// the eight words from 8 i on, and 0 behind them; a refusal leaves `labels` as it was.
+// input records stay in the file, where the header says. The labels of a file that loads are put into `labels`, one
+// behind the other, and 0 behind them; a refusal leaves `labels` as it was.
 pub fn load(file: &[u8], labels: &mut [u64; file_sections::WORDS]) -> Loaded
     ensures { λ r. ⌜ (r ≡ loaded (now (file .entry))) × (now (labels .exit) ≡ wordsAfter (now (file .entry)) (now (labels .entry))) ⌝ }
 {
