@@ -15,7 +15,7 @@ pub record Case : Type 0 where
   pub number : ℕ
   pub holds : Bool
 
--- the last is looked at first
+-- the last is looked at first, so that a late case that fails is found before the others are computed
 abbrev pub allHold : List Case → Bool
 allHold [] = true
 allHold (c ∷ cs) = allHold cs && c .holds

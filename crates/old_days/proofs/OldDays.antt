@@ -4,9 +4,8 @@
 use mathlib.Core.Bool.{Bool, true}
 use mathlib.Core.List.{List, [], _∷_, _++_, map}
 use mathlib.Core.Path.{_≡_, refl, sym, ap, ap₂, _∙_}
-use Prim.Native.Nat.{ℕ, _+_, _≤_, _<_}
+use Prim.Native.Nat.{ℕ, _≤_, _<_}
 use borrow.Author.Tests.{lt-ltb, le-leb}
-use lib.Dec.{leb, ltb, eqb}
 use lib.ListN.{length, drop}
 use Rattle.labels.specs.Tables.{principals}
 use Rattle.labels.specs.Order.{flows}
@@ -32,12 +31,7 @@ use Rattle.old_days.proofs.Views.{turns-laid-out, turns-contents, turns
 module _ (h : Header) (ls ms : ℕ → Label) (same : (i j : ℕ) → flows (ls i) (ls j) ≡ flows (ms i) (ms j)) where
   job-same : (j : Job) → jobOk h ls j ≡ jobOk h ms j
   unfolding jobOk
-  job-same j =
-      ap (λ (b : Bool). every
-      (leb (j .caller) 15 ∷ ltb (j .label) (h .labels .count) ∷ ltb (j .clearance) (h .labels .count) ∷ eqb (j .zero) 0
-      ∷ leb 1 (j .steps) ∷ leb (h .records .count) (j .places) ∷ leb (j .places) 256
-      ∷ leb 1 (j .length) ∷ leb (j .start + j .length) (h .code .count) ∷ b ∷ []))
-      (same (j .label) (j .clearance))
+  job-same j = rw (same (j .label) (j .clearance))
 
   each-same : (js : List Job) → map (jobOk h ls) js ≡ map (jobOk h ms) js
   each-same [] = refl
@@ -45,7 +39,7 @@ module _ (h : Header) (ls ms : ℕ → Label) (same : (i j : ℕ) → flows (ls 
 
   jobs-same : (js : List Job) → jobsOk h ls js ≡ jobsOk h ms js
   unfolding jobsOk
-  jobs-same js = ap (λ (bs : List Bool). every (leb 1 (h .jobs .count) ∷ leb (h .jobs .count) 16 ∷ every bs ∷ [])) (each-same js)
+  jobs-same js = rw (each-same js)
 
 module _ (bs : List ℕ) (loads : dayRefusalOver 6 bs ≡ 0) where
   -- the checks from 4 on, by what 4 and 10 find
