@@ -1,4 +1,6 @@
 // Which jobs of a day are admitted: each caller has an allowance of steps, which is taken down as its jobs are admitted.
+#![tactic(auto)]
+
 ghost use Rattle.std.specs.Prelude.{◌≡◌, ◌<◌};
 ghost use Rattle.admission.specs.Admission.{fits};
 ghost use Rattle.admission.specs.Allowances.{rest_of, admission_of, allowances_of};
@@ -7,13 +9,13 @@ ghost use Rattle.admission.specs.Allowances.{rest_of, admission_of, allowances_o
 pub const CALLERS: usize = 16;
 
 // What one caller has left of the day's steps.
-#[derive(Drop)]
+#[derive(Clone, Copy)]
 pub struct Allowance {
     pub left: usize,
 }
 
 // The answer to a job, and the allowance of each caller then, by the caller's number.
-#[derive(Drop)]
+#[derive(Clone, Copy)]
 pub struct Admission {
     pub admitted: bool,
     pub callers: [Allowance; CALLERS],

@@ -1,5 +1,7 @@
 // Printing the lines of each file of a batch. A batch has the files one behind the other, each with its length before it as
 // a 32-bit number. Its files are plain ones or days; a batch does not tell.
+#![tactic(auto)]
+
 use libc::{STDIN_FILENO, STDOUT_FILENO};
 
 // The longest file that a batch may have. The longest that loads has 65,535 bytes.
@@ -9,7 +11,7 @@ const ROOM: usize = 70000;
 const MOST: usize = 1000000;
 
 // What is printed of each file: its views and a line with a full stop, the same of a day, or its quote.
-#[derive(Drop)]
+#[derive(Clone, Copy)]
 pub enum Kind {
     Views,
     DayViews,

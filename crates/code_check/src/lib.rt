@@ -1,5 +1,7 @@
 // Check 7, on the bytes of a script's code: every instruction known, whole and within its limits, every target an
 // instruction's start, and the last instruction one that may be last.
+#![tactic(auto)]
+
 ghost use Rattle.std.specs.Prelude.{◌≡◌, false, ◌≤◌, ◌<◌, ◌^◌, length, get_or};
 ghost use Rattle.model.specs.declared.Instr.TheVariants.{End};
 ghost use Rattle.model.specs.Decoding.{instrs};

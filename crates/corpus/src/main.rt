@@ -1,4 +1,6 @@
 // Prints the views of each plain file of a batch.
+#![tactic(auto)]
+
 use batches::Kind;
 
 fn main() {

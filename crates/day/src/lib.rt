@@ -1,4 +1,6 @@
 // A day that loads: its jobs run one behind the other on one store, and what a label is shown of each.
+#![tactic(auto)]
+
 ghost use Rattle.std.specs.Prelude.{◌≡◌, ◌≤◌, ◌<◌, ◌^◌, leb, length};
 ghost use Rattle.model.specs.Words.{file_words};
 ghost use Rattle.store.specs.Slots.{words, slots};

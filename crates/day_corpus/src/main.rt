@@ -1,4 +1,6 @@
 // Prints the views of each day of a batch.
+#![tactic(auto)]
+
 use batches::Kind;
 
 fn main() {

@@ -1,4 +1,6 @@
 // A day file: its header, its jobs, and the checks that stop it.
+#![tactic(auto)]
+
 ghost use Rattle.std.specs.Prelude.{true, ◌≡◌, ◌<◌, ◌^◌, length};
 ghost use Rattle.model.specs.Words.{label_in, file_words};
 ghost use Rattle.day_file.specs.Sections.{day_header, job_from, jobs_from};
@@ -9,7 +11,7 @@ ghost use Rattle.day_file.specs.Parts.{Shorts};
 use file_sections::Section;
 
 // The numbers of a day's header.
-#[derive(Drop)]
+#[derive(Clone, Copy)]
 pub struct Header {
     pub labels: Section,
     pub records: Section,
@@ -20,7 +22,7 @@ pub struct Header {
 
 // A job: who asks for it, the indices of its starting label and clearance, a byte that is 0, its steps and places, and
 // its span of the code section.
-#[derive(Drop)]
+#[derive(Clone, Copy)]
 pub struct Job {
     pub caller: usize,
     pub label: usize,
@@ -33,7 +35,7 @@ pub struct Job {
 }
 
 // What loading a day comes to: the number of the first check that stops it, or its header.
-#[derive(Drop)]
+#[derive(Clone, Copy)]
 pub enum Loaded {
     Refused(u64),
     Day(Header),

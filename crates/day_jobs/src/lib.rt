@@ -1,4 +1,6 @@
 // A job of a day: its run, and its end.
+#![tactic(auto)]
+
 ghost use Rattle.std.specs.Prelude.{◌≡◌, length, set};
 ghost use Rattle.model.specs.Words.{file_words};
 ghost use Rattle.model.specs.State.{at as slot_at};

@@ -1,4 +1,6 @@
 // The printed lines of a day that was run, for one of its labels, written into a buffer that the caller lends.
+#![tactic(auto)]
+
 ghost use Rattle.std.specs.Prelude.{◌≡◌, ◌≤◌, length};
 ghost use Rattle.model.specs.Words.{file_words};
 ghost use Rattle.store.specs.Slots.{words};

@@ -1,4 +1,6 @@
 // Printing what a day comes to: for each of its labels a line for each job, that label reading, or its refusal.
+#![tactic(auto)]
+
 ghost use Rattle.std.specs.Prelude.{◌≡◌, ◌≤◌, ◌<◌, length};
 ghost use Rattle.model.specs.Words.{file_words};
 ghost use Rattle.day_file.specs.Parts.{DayLoads};

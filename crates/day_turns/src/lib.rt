@@ -1,5 +1,7 @@
 // A day that loads, run once and kept: how each of its jobs ended and the store that it left, for any number of labels to be
 // shown.
+#![tactic(auto)]
+
 ghost use Rattle.std.specs.Prelude.{◌≡◌, length};
 ghost use Rattle.model.specs.Words.{file_words};
 ghost use Rattle.store.specs.Slots.{words, slots};
@@ -15,14 +17,14 @@ use model::{Datum, Ending, Finished};
 use store::STORE;
 
 // How a job went: whether it was run, and how it ended then.
-#[derive(Drop)]
+#[derive(Clone, Copy)]
 pub struct JobEnd {
     pub ran: bool,
     pub finish: Finished,
 }
 
 // Those of a day's jobs, of which there are at most 16. Of a skipped job nothing but `ran` is looked at.
-#[derive(Drop)]
+#[derive(Clone, Copy)]
 pub struct Ends {
     pub jobs: [JobEnd; 16],
 }

@@ -1,11 +1,13 @@
 // Instruction decoding, for the file's checks and for the machine.
+#![tactic(auto)]
+
 ghost use Rattle.std.specs.Prelude.{◌≡◌, ◌+◌, ◌<◌, ◌^◌, length, get_or};
 ghost use Rattle.model.specs.declared.Instr.TheVariants.{End, Block};
 ghost use Rattle.model.specs.Decoding.{byte, u16, u32, known, size, instrs, fetch, after};
 
 use model::Instr;
 
-#[derive(Drop)]
+#[derive(Clone, Copy)]
 pub struct Decoded {
     pub instr: Instr,
     // where the next instruction starts

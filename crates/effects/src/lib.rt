@@ -1,4 +1,6 @@
 // What an instruction comes to on labels and records: faults 22 to 28, or an effect that says where things lie.
+#![tactic(auto)]
+
 ghost use Rattle.std.specs.Prelude.{◌≡◌, ◌^◌, ◌≤◌, ◌<◌, length, set};
 ghost use Rattle.model.specs.Words.{file_words};
 ghost use Rattle.model.specs.State.{at};

@@ -1,5 +1,7 @@
 // The printed lines of a file, written into a buffer that the caller lends: the file is loaded and run once, and shown to
 // each of its labels.
+#![tactic(auto)]
+
 ghost use Rattle.std.specs.Prelude.{◌≡◌, ◌≤◌, length};
 ghost use Rattle.model.specs.Words.{file_words};
 ghost use Rattle.store.specs.Slots.{words, slots};

@@ -1,4 +1,6 @@
 // What a plain file and a day have in common: the sections of labels and of input records, and their checks.
+#![tactic(auto)]
+
 ghost use Rattle.std.specs.Prelude.{◌≡◌, ◌≤◌, ◌<◌, ◌^◌};
 ghost use Rattle.std.proofs.Math.Option.{none};
 ghost use Rattle.model.specs.Decoding.{u16};
@@ -10,7 +12,7 @@ use label_entries::Entry;
 use labels::LABEL_WORDS;
 
 // A section of the file: how many entries (of the code: bytes) it has, and where it starts.
-#[derive(Drop)]
+#[derive(Clone, Copy)]
 pub struct Section {
     pub count: usize,
     pub offset: usize,
@@ -20,7 +22,7 @@ pub struct Section {
 pub const WORDS: usize = 32 * LABEL_WORDS;
 
 // The labels of a file. Zeros behind them, and where the section is malformed.
-#[derive(Drop)]
+#[derive(Clone, Copy)]
 pub struct FileLabels {
     pub whole: bool,
     pub words: [u64; WORDS],

@@ -1,1 +1,2 @@
 // No code: the definitions of clauses, formulas and tables are in specs/, their theorems in proofs/.
+#![tactic(auto)]

@@ -1,4 +1,6 @@
 // Label entries, as a file has them: read and written.
+#![tactic(auto)]
+
 ghost use Rattle.std.specs.Prelude.{◌≡◌, [], ◌∷◌, ◌<◌, ◌^◌, length};
 ghost use Rattle.formulas.specs.Bits.{bit};
 ghost use Rattle.formulas.specs.Formula.{table};
@@ -9,7 +11,7 @@ ghost use Rattle.label_entries.specs.Entries.{read_formula, read_entry, write_an
 use labels::{Label, PRINCIPALS, Table};
 
 // What reading a label entry finds.
-#[derive(Drop)]
+#[derive(Clone, Copy)]
 pub enum Entry {
     // A label, and how many bytes its entry has.
     Read(Label, usize),
@@ -17,14 +19,14 @@ pub enum Entry {
 }
 
 // What reading the masks of one formula finds.
-#[derive(Drop)]
+#[derive(Clone, Copy)]
 enum Formula {
     Read(Table),
     Malformed,
 }
 
 // What writing a label entry comes to.
-#[derive(Drop)]
+#[derive(Clone, Copy)]
 pub enum Written {
     // How many bytes the entry has.
     Bytes(usize),

@@ -1,4 +1,6 @@
 // Labels, their order, join and meet.
+#![tactic(auto)]
+
 ghost use Rattle.std.specs.Prelude.{◌≡◌, cond, ◌+◌, ◌-◌, ◌^◌, ◌≤◌, length};
 ghost use Rattle.std.specs.Int.Bits.{bit_and};
 ghost use Rattle.labels.specs.Tables.{table_implies, table_and, table_or, lowest};
@@ -9,7 +11,7 @@ ghost use Rattle.labels.specs.Words.{words_in_table, words_in_label, table_from,
 pub const PRINCIPALS: u64 = 8;
 
 // A formula's table: bit i of the whole stands for the set of principals whose mask is i. Four words, lowest first.
-#[derive(Drop)]
+#[derive(Clone, Copy)]
 pub struct Table {
     pub word0: u64,
     pub word1: u64,
@@ -18,7 +20,7 @@ pub struct Table {
 }
 
 // A label ⟨S, I⟩: the tables of its secrecy and its integrity formula.
-#[derive(Drop)]
+#[derive(Clone, Copy)]
 pub struct Label {
     pub secrecy: Table,
     pub integrity: Table,

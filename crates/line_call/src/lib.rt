@@ -1,5 +1,7 @@
 // The printed line of a view, for C and Rust: an open call in a library of its own, by which the benchmark times the writing
 // of lines.
+#![tactic(auto)]
+
 ghost use Rattle.std.specs.Prelude.{cond, ◌≡◌, leb, length};
 ghost use Rattle.view.specs.Writing.{shown_in};
 ghost use Rattle.lines.specs.Lines.{line};

@@ -1,5 +1,7 @@
 // The printed line: a view's fields as hex bytes parted by spaces, or that a file is refused and why, written into a
 // buffer that the caller lends.
+#![tactic(auto)]
+
 ghost use Rattle.std.specs.Prelude.{◌≡◌, ◌∷◌, ◌+◌, ◌*◌, ◌≤◌, ◌<◌, length};
 ghost use Rattle.model.specs.Decoding.{u16};
 ghost use Rattle.view_fields.specs.Writing.{over};

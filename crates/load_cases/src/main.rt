@@ -1,6 +1,8 @@
 // Loads each file of standard input and prints the answer. A line has how many zero bytes the file ends with, its other
 // bytes in hexadecimal, and what is tried, parted by single spaces. The answers to compare with come from a second
 // reading of the file's rules, made apart from this code.
+#![tactic(auto)]
+
 ghost use Rattle.std.specs.Prelude.{◌≤◌, ◌<◌, length};
 
 use libc::{STDIN_FILENO, STDOUT_FILENO};

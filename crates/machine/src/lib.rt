@@ -1,5 +1,7 @@
 // The run state, passed and returned by value, and the interpreter. The records are lent beside it, as words: the state
 // is copied, and 256 records in it would be copied too.
+#![tactic(auto)]
+
 ghost use Rattle.std.specs.Prelude.{◌≡◌, ◌+◌, ◌≤◌, ◌<◌, length};
 ghost use Rattle.model.specs.Effects.{body_account};
 ghost use Rattle.model.specs.Running.{runs, start_control, start_account};
@@ -13,14 +15,14 @@ use labels::Label;
 use model::{Account, Datum, Ending, Finished, Frame, Kind, Value};
 use operands::{Effect, Task};
 
-#[derive(Drop)]
+#[derive(Clone, Copy)]
 pub enum Status {
     Running,
     Ended(Ending),
 }
 
 // A struct of its own, so that the field can be set.
-#[derive(Drop)]
+#[derive(Clone, Copy)]
 pub struct Progress {
     pub status: Status,
 }
@@ -28,7 +30,7 @@ pub struct Progress {
 // In this order, since a method that sets a field moves what lies behind it, and one that moves over 1 KB is not inlined into a
 // run that calls itself. The frames come before the stack, so that they are set where they lie. `limit` and `depth`, which no
 // run sets, lie between the arrays, or these are moved as one.
-#[derive(Drop)]
+#[derive(Clone, Copy)]
 pub struct State {
     pub locals: [Value; 16],
     // The places left are those from `next` up to `limit`.

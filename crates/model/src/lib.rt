@@ -1,35 +1,37 @@
 // The plain data that the machine, its definition and the view speak of.
+#![tactic(auto)]
+
 use labels::Label;
 
 // The two kinds of record. In the field's terms a sealed record is a labeled value, and a reference a
 // labeled mutable reference.
-#[derive(Drop)]
+#[derive(Clone, Copy)]
 pub enum Kind {
     Sealed,
     Reference,
 }
 
 // What a value is: a number, a label, or a handle to the record at a place. A place is a location of the store.
-#[derive(Drop)]
+#[derive(Clone, Copy)]
 pub enum Datum {
     Number(u32),
     Label(Label),
     Handle(Kind, usize),
 }
 
-#[derive(Drop)]
+#[derive(Clone, Copy)]
 pub struct Value {
     pub datum: Datum,
 }
 
 // A record holds a value, or a fault (its code and number): a sealed fault is a delayed exception.
-#[derive(Drop)]
+#[derive(Clone, Copy)]
 pub enum Contents {
     Value(Datum),
     Fault(u32, u32),
 }
 
-#[derive(Drop)]
+#[derive(Clone, Copy)]
 pub struct Record {
     pub kind: Kind,
     pub label: Label,
@@ -37,14 +39,14 @@ pub struct Record {
 }
 
 // A place of the store.
-#[derive(Drop)]
+#[derive(Clone, Copy)]
 pub enum Slot {
     Empty,
     Full(Record),
 }
 
 // A try frame: where its handler starts; how many values were on the stack at TRY, and the clearance that stood there.
-#[derive(Drop)]
+#[derive(Clone, Copy)]
 pub struct Frame {
     pub handler: usize,
     pub height: usize,
@@ -52,7 +54,7 @@ pub struct Frame {
 }
 
 // The instructions, in the order of their opcodes 00 to 1D.
-#[derive(Drop)]
+#[derive(Clone, Copy)]
 pub enum Instr {
     End,
     Push(u32),
@@ -89,7 +91,7 @@ pub enum Instr {
 
 // The account of a run: what it is charged to and checked against. Places are given out in order and not given back in a
 // run, so "places left" is limit less next: a run's allotment (its quota) is the places from next up to limit.
-#[derive(Drop)]
+#[derive(Clone, Copy)]
 pub struct Account {
     pub label: Label,
     pub clearance: Label,
@@ -100,7 +102,7 @@ pub struct Account {
     pub depth: usize,
 }
 
-#[derive(Drop)]
+#[derive(Clone, Copy)]
 pub enum Ending {
     Result(Datum),
     Fault(u32, u32),
@@ -109,7 +111,7 @@ pub enum Ending {
 
 // What a run leaves, beside the store: how it ended, its last label and clearance, the steps that it had left, and the
 // next place.
-#[derive(Drop)]
+#[derive(Clone, Copy)]
 pub struct Finished {
     pub ending: Ending,
     pub label: Label,

@@ -1,5 +1,7 @@
 // The open calls: reading a file, or a day, for a label into a buffer, and the quote of a file. They ask nothing of their
 // caller.
+#![tactic(auto)]
+
 ghost use Rattle.std.specs.Prelude.{◌≡◌};
 ghost use Rattle.view.specs.Reading.{reading};
 ghost use Rattle.day.specs.Views.{day_reading};

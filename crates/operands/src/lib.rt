@@ -1,5 +1,7 @@
 // What an instruction has to look at, and what it comes to on numbers: faults 20, 21, 22 and 29. Nothing that is answered
 // here holds a label or a value: an effect says where it lies.
+#![tactic(auto)]
+
 ghost use Rattle.std.specs.Prelude.{◌≡◌, ◌^◌, ◌<◌, length};
 ghost use Rattle.model.specs.Inputs.{kind_of};
 ghost use Rattle.model.specs.Words.{label_in, file_words};
@@ -9,7 +11,7 @@ use labels::Label;
 use model::{Datum, Instr, Kind};
 
 // Where a label lies that is to be pushed.
-#[derive(Drop)]
+#[derive(Clone, Copy)]
 pub enum Origin {
     // among the file's labels
     File(usize),
@@ -20,21 +22,21 @@ pub enum Origin {
 }
 
 // What is made of the two labels on top.
-#[derive(Drop)]
+#[derive(Clone, Copy)]
 pub enum Both {
     Join,
     Meet,
 }
 
 // What a fault raises the label by: nothing, or the label of the record at a place.
-#[derive(Drop)]
+#[derive(Clone, Copy)]
 pub enum By {
     None,
     Record(usize),
 }
 
 // What the run state has to take over, its operands dropped: small words only.
-#[derive(Drop)]
+#[derive(Clone, Copy)]
 pub enum Effect {
     // what raises the label, code, number
     Fault(By, u32, u32),
@@ -65,13 +67,13 @@ pub enum Effect {
 }
 
 // How many operands are dropped, all of them there, and what is done then. A fault drops none.
-#[derive(Drop)]
+#[derive(Clone, Copy)]
 pub struct Decision {
     pub takes: usize,
     pub effect: Effect,
 }
 
-#[derive(Drop)]
+#[derive(Clone, Copy)]
 pub enum Arith {
     Add,
     Sub,
@@ -79,13 +81,13 @@ pub enum Arith {
     Same,
 }
 
-#[derive(Drop)]
+#[derive(Clone, Copy)]
 pub enum Test {
     Branch(usize),
     Throw,
 }
 
-#[derive(Drop)]
+#[derive(Clone, Copy)]
 pub enum Pair {
     Flows,
     Join,
@@ -93,14 +95,14 @@ pub enum Pair {
 }
 
 // What is done on numbers.
-#[derive(Drop)]
+#[derive(Clone, Copy)]
 pub enum NumberTask {
     Test(Test),
     Arith(Arith),
 }
 
 // What is done on a label, which lies on top.
-#[derive(Drop)]
+#[derive(Clone, Copy)]
 pub enum OnLabel {
     Raise,
     Lower,
@@ -111,7 +113,7 @@ pub enum OnLabel {
 }
 
 // What is done on a handle, which lies on top.
-#[derive(Drop)]
+#[derive(Clone, Copy)]
 pub enum OnHandle {
     // it is of this kind
     Open(Kind),
@@ -121,7 +123,7 @@ pub enum OnHandle {
 }
 
 // What is done on labels and records.
-#[derive(Drop)]
+#[derive(Clone, Copy)]
 pub enum LabelTask {
     Pair(Pair),
     Label(OnLabel),
@@ -129,7 +131,7 @@ pub enum LabelTask {
 }
 
 // What is to be looked at, once there are operands and room enough.
-#[derive(Drop)]
+#[derive(Clone, Copy)]
 pub enum Task {
     // nothing
     Do(Decision),

@@ -1,4 +1,6 @@
 // Reads a day from standard input and prints for each label a line for each job, that label reading.
+#![tactic(auto)]
+
 use libc::STDIN_FILENO;
 
 // A day has at most 65,535 bytes, so a buffer of one more is enough to see that an input is too long. Nothing before the

@@ -1,4 +1,6 @@
 // Reads a file from standard input and prints one line per label, that label reading.
+#![tactic(auto)]
+
 use libc::STDIN_FILENO;
 
 // A file has at most 65,535 bytes, so a buffer of one more is enough to see that an input is too long. Nothing before the

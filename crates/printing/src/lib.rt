@@ -1,4 +1,6 @@
 // Printing what a file comes to: a line for each of its labels, that label reading, or its refusal.
+#![tactic(auto)]
+
 use file_lines::ROOM;
 use libc::STDOUT_FILENO;
 

@@ -1,5 +1,7 @@
 // What a plain file's code may cost, worked out without running it: the largest steps and the largest places along any path
 // through the code.
+#![tactic(auto)]
+
 ghost use Rattle.std.specs.Prelude.{◌≡◌, true, ◌+◌, ◌≤◌, ◌<◌, ◌^◌, max, length, get_or};
 ghost use Rattle.model.specs.declared.Instr.TheVariants.{End};
 ghost use Rattle.model.specs.Decoding.{known, instrs, after};
@@ -12,14 +14,14 @@ ghost use Rattle.quote.specs.Passes.{put, at, Small, Behind, weight_from, Checke
 use script_file::{Header, Loaded};
 
 // The largest steps and the largest places, each by itself.
-#[derive(Drop)]
+#[derive(Clone, Copy)]
 pub struct Figures {
     pub steps: u32,
     pub places: u32,
 }
 
 // What asking for a quote comes to.
-#[derive(Drop)]
+#[derive(Clone, Copy)]
 pub enum Quote {
     // The number of the check that stops it, 1 to 7 or 11.
     Refused(u64),
@@ -51,7 +53,7 @@ fn found(figures: &[u32], i: usize) -> u32
 }
 
 // What an instruction weighs, with what may follow it.
-#[derive(Drop)]
+#[derive(Clone, Copy)]
 struct Weight {
     // Check 11 does not apply to it: it is no TRY, and its target is ahead.
     ahead: bool,

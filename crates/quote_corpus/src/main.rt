@@ -1,4 +1,6 @@
 // Prints the quote of each file of a batch.
+#![tactic(auto)]
+
 use batches::Kind;
 
 fn main() {

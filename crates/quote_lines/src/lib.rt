@@ -1,4 +1,6 @@
 // The printed quote of a file, written into a buffer that the caller lends.
+#![tactic(auto)]
+
 ghost use Rattle.std.specs.Prelude.{◌≡◌, ◌≤◌, ◌<◌, ◌^◌, length};
 ghost use Rattle.view_fields.specs.Writing.{over};
 ghost use Rattle.lines.specs.Lines.{decimal};

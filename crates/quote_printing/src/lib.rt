@@ -1,4 +1,6 @@
 // Printing the quote of a file: a line with the two figures, or its refusal.
+#![tactic(auto)]
+
 use libc::STDOUT_FILENO;
 use quote_lines::ROOM;
 

@@ -1,4 +1,6 @@
 // A script file: its header, and the checks that stop it.
+#![tactic(auto)]
+
 ghost use Rattle.std.specs.Prelude.{◌≡◌, length};
 ghost use Rattle.labels.specs.Order.{flows};
 ghost use Rattle.script_file.specs.Sections.{header};
@@ -10,7 +12,7 @@ ghost use Rattle.script_file.specs.Parts.{Shorts};
 use file_sections::Section;
 
 // The eight numbers of the header.
-#[derive(Drop)]
+#[derive(Clone, Copy)]
 pub struct Header {
     pub labels: Section,
     pub records: Section,
@@ -20,7 +22,7 @@ pub struct Header {
 }
 
 // Why a file is refused, in the order of the checks 1 to 7.
-#[derive(Drop)]
+#[derive(Clone, Copy)]
 pub enum Refusal {
     Size,
     Counts,
@@ -32,7 +34,7 @@ pub enum Refusal {
 }
 
 // What loading a file comes to.
-#[derive(Drop)]
+#[derive(Clone, Copy)]
 pub enum Loaded {
     Refused(Refusal),
     File(Header),

@@ -1,4 +1,6 @@
 // The records of a run, in words that the caller lends, place by place.
+#![tactic(auto)]
+
 ghost use Rattle.std.specs.Prelude.{◌≡◌, length, set};
 ghost use Rattle.model.specs.State.{at};
 ghost use Rattle.store.specs.Slots.{words, kind_word, contents_in, slot_of, slots};
@@ -24,7 +26,7 @@ const WIDTH: usize = SECOND + TABLE_WORDS;
 pub const STORE: usize = WIDTH * PLACES;
 
 // The words of a record's contents: what they are, and two tables of it. A number or a place is in a table's lowest word.
-#[derive(Drop)]
+#[derive(Clone, Copy)]
 struct Words {
     tag: u64,
     first: Table,

@@ -1,4 +1,6 @@
 // Values as the machine reads, makes and copies them; and what it works out of small numbers and accounts.
+#![tactic(auto)]
+
 ghost use Rattle.std.specs.Prelude.{◌≡◌, ◌+◌, ◌-◌, ◌≤◌, ◌<◌, min};
 ghost use Rattle.model.specs.Effects.{body_account};
 ghost use Rattle.model.specs.State.{number};

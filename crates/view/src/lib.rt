@@ -1,5 +1,7 @@
 // The view: what a reading label, the observer, is shown of a run that has ended, written into a buffer that the caller
 // lends.
+#![tactic(auto)]
+
 ghost use Rattle.std.specs.Prelude.{◌≡◌, ◌-◌, ◌*◌, ◌≤◌, length};
 ghost use Rattle.labels.specs.Tables.{principals};
 ghost use Rattle.model.specs.State;
@@ -15,7 +17,7 @@ use store::PLACES;
 use view_fields::{LABEL, NUMBER, RECORD, VALUE};
 
 // What a read comes to.
-#[derive(Drop)]
+#[derive(Clone, Copy)]
 pub enum Answer {
     // The number of the check that stops it, 1 to 9; the buffer is untouched.
     Refused(u64),

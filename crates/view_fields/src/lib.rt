@@ -1,4 +1,6 @@
 // The fields of a view, written into a buffer that the caller lends: numbers, labels, values, the result and a record.
+#![tactic(auto)]
+
 ghost use Rattle.std.specs.Prelude.{◌≡◌, [], ◌∷◌, ◌≤◌, length, replicate};
 ghost use Rattle.labels.specs.Tables.{principals, whole};
 ghost use Rattle.view_fields.specs.Fields.{table_width, label_width, value_width, record_width, little_endian, label_field, datum_field, contents_field, ending_number, result_field, kind_byte, record_field};
@@ -8,7 +10,7 @@ use labels::{Label, Table};
 use model::{Contents, Datum, Ending, Kind, Record};
 
 // A value as a view has it: its kind, and two words as wide as a table.
-#[derive(Drop)]
+#[derive(Clone, Copy)]
 pub struct Triple {
     pub kind: u8,
     pub first: Table,

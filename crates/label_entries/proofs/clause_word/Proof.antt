@@ -5,11 +5,11 @@ use Rattle.label_entries.proofs.Words.{clause_all, clause_six, nonzero-some}
 use Rattle.label_entries.proofs.clause_word.Statement.{statement}
 use Rattle.label_entries.proofs.clause_word.Tie as tie
 
-all : tie.Need-returns
-all c = let s : tie.Start = search in clause_all s.args.mask s.args.k s.pre.0 (nonzero-some _ c.if1.true)
+all : tie.Need-returns-then-mask-k-ne0
+all c = let s : tie.Start = search in clause_all s.args.mask s.args.k s.pre.0 (nonzero-some _ c.if-mask-k-ne0.true)
 
-six : tie.Need-returns-2
-six c = let s : tie.Start = search in s.pre.1 ∙ clause_six s.args.mask s.args.k s.pre.0 (ap nonzero c.if1.false)
+six : tie.Need-returns
+six c = let s : tie.Start = search in s.pre.1 ∙ clause_six s.args.mask s.args.k s.pre.0 (ap nonzero c.if-mask-k-ne0.false)
 
 pub clause_word_spec : {M : Type 1} → statement M
 clause_word_spec = tie.close (tie.spec all six)

@@ -11,31 +11,31 @@ module _ (s : tie.Start) where
   fits : Fits s.args.t
   fits = record { fits0 = omega arith; fits1 = omega arith; fits2 = omega arith; fits3 = omega arith }
 
-first : tie.Need-returns
+first : tie.Need-returns-then-x-lt64
 first c =
-    let t : tie.Then1 = search in
+    let t : tie.Then-x-lt64 = search in
     let s : tie.Start = search in
-    c.has.ensures ∙ in_word0 s.args.t (fits s) s.args.x (omega (arith, t.if1.taken))
+    c.has.ensures ∙ in_word0 s.args.t (fits s) s.args.x (omega (arith, t.if-x-lt64.taken))
 
-second : tie.Need-returns-2
+second : tie.Need-returns-then-x-lt128
 second c =
-    let t : tie.Then2 = search in
-    let e : tie.Else1 = search in
+    let t : tie.Then-x-lt128 = search in
+    let e : tie.Else-x-lt64 = search in
     let s : tie.Start = search in
-    c.has2.ensures ∙ in_word1 s.args.t (fits s) s.args.x (omega (arith, e.if1.left)) (omega (arith, t.if2.taken))
+    c.has-then-x-lt128.ensures ∙ in_word1 s.args.t (fits s) s.args.x (omega (arith, e.if-x-lt64.left)) (omega (arith, t.if-x-lt128.taken))
 
-third : tie.Need-returns-3
+third : tie.Need-returns-then-x-lt192
 third c =
-    let t : tie.Then3 = search in
-    let e : tie.Else2 = search in
+    let t : tie.Then-x-lt192 = search in
+    let e : tie.Else-x-lt128 = search in
     let s : tie.Start = search in
-    c.has3.ensures ∙ in_word2 s.args.t (fits s) s.args.x (omega (arith, e.if2.left)) (omega (arith, t.if3.taken))
+    c.has-then-x-lt192.ensures ∙ in_word2 s.args.t (fits s) s.args.x (omega (arith, e.if-x-lt128.left)) (omega (arith, t.if-x-lt192.taken))
 
-fourth : tie.Need-returns-4
+fourth : tie.Need-returns
 fourth c =
-    let e : tie.Else3 = search in
+    let e : tie.Else-x-lt192 = search in
     let s : tie.Start = search in
-    c.has4.ensures ∙ in_word3 s.args.t (fits s) s.args.x (omega (arith, e.if3.left)) (omega (arith, s.pre))
+    c.has-2.ensures ∙ in_word3 s.args.t (fits s) s.args.x (omega (arith, e.if-x-lt192.left)) (omega (arith, s.pre))
 
 pub contains_spec : {M : Type 1} → statement M
 contains_spec =

@@ -16,21 +16,21 @@ abbrev decreases-loop : tie.decreases-loop
 decreases-loop t n₀ c₀ n c = 256 - c
 
 abbrev Head : Type 0
-Head = tie.At-loop invariant-loop decreases-loop
+Head = tie.At-loop-c invariant-loop decreases-loop
 
-loop-again : tie.Need-loop-preserved invariant-loop decreases-loop
+loop-again : tie.Need-loop-c-preserved invariant-loop decreases-loop
 loop-again c =
-    let f : tie.After-maximal-false invariant-loop decreases-loop = search in
-    let i : tie.In-loop invariant-loop decreases-loop = search in
+    let f : tie.After-maximal_false invariant-loop decreases-loop = search in
+    let i : tie.In-loop-c invariant-loop decreases-loop = search in
     let h : Head = search in
     let b : tie.Start invariant-loop decreases-loop = search in
     ⊎_elim
-    (λ w. rw w.1 (count_one (whole b.args.t) h.loop.n h.loop.c h.loop.inv i.loop-test.taken (sym f.Maximal-false.ensures ∙ w.0.taken)))
-    (λ w. rw w.1 (count_on (whole b.args.t) h.loop.n h.loop.c h.loop.inv i.loop-test.taken (sym f.Maximal-false.ensures ∙ w.0.left)))
-    c.if1.branch
+    (λ w. rw w.1 (count_one (whole b.args.t) h.loop-c.n h.loop-c.c h.loop-c.inv i.loop-c-test.taken (sym f.Maximal-false.ensures ∙ w.0.taken)))
+    (λ w. rw w.1 (count_on (whole b.args.t) h.loop-c.n h.loop-c.c h.loop-c.inv i.loop-c-test.taken (sym f.Maximal-false.ensures ∙ w.0.left)))
+    c.if-maximal_false.branch
 
 returns : tie.Need-returns invariant-loop decreases-loop
-returns c = let h : Head = search in count_end _ _ _ h.loop.inv (omega (arith, c.loop-test.false))
+returns c = let h : Head = search in count_end _ _ _ h.loop-c.inv (omega (arith, c.loop-c-test.false))
 
 pub count_clauses_spec : {M : Type 1} → statement M
 count_clauses_spec =

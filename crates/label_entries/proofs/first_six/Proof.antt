@@ -17,27 +17,27 @@ abbrev decreases-loop : tie.decreases-loop
 decreases-loop mask t₀ p₀ t p = 6 - p
 
 abbrev Head : Type 0
-Head = tie.At-loop invariant-loop decreases-loop
+Head = tie.At-loop-p invariant-loop decreases-loop
 
-loop-holds : tie.Need-loop-init invariant-loop decreases-loop
+loop-holds : tie.Need-loop-p-init invariant-loop decreases-loop
 loop-holds c = (omega arith, no_member c.args.mask)
 
-loop-again : tie.Need-loop-preserved invariant-loop decreases-loop
+loop-again : tie.Need-loop-p-preserved invariant-loop decreases-loop
 loop-again c =
     let h : tie.After-has invariant-loop decreases-loop = search in
-    let i : tie.In-loop invariant-loop decreases-loop = search in
+    let i : tie.In-loop-p invariant-loop decreases-loop = search in
     let l : Head = search in
     let b : tie.Start invariant-loop decreases-loop = search in
-    let p = l.loop.p in (
-      omega (arith, i.loop-test.taken),
+    let p = l.loop-p.p in (
+      omega (arith, i.loop-p-test.taken),
       ⊎_elim
-          (λ w. w.1 ∙ clause_with 6 b.args.mask p _ l.loop.inv.1 _ (single_table p (omega (arith, i.loop-test.taken))) (sym h.has.ensures ∙ w.0.taken))
-          (λ w. w.1 ∙ clause_without 6 b.args.mask p _ l.loop.inv.1 (sym h.has.ensures ∙ w.0.left))
-          c.if1.branch,
+          (λ w. w.1 ∙ clause_with 6 b.args.mask p _ l.loop-p.inv.1 _ (single_table p (omega (arith, i.loop-p-test.taken))) (sym h.has.ensures ∙ w.0.taken))
+          (λ w. w.1 ∙ clause_without 6 b.args.mask p _ l.loop-p.inv.1 (sym h.has.ensures ∙ w.0.left))
+          c.if-has.branch,
     )
 
 returns : tie.Need-returns invariant-loop decreases-loop
-returns c = let l : Head = search in l.loop.inv.1 ∙ clause_whole _ _ (omega (arith, l.loop.inv.0, c.loop-test.false))
+returns c = let l : Head = search in l.loop-p.inv.1 ∙ clause_whole _ _ (omega (arith, l.loop-p.inv.0, c.loop-p-test.false))
 
 pub first_six_spec : {M : Type 1} → statement M
 first_six_spec =

@@ -18,11 +18,11 @@ abbrev decreases-loop : tie.decreases-loop
 decreases-loop t x p₀ p = principals - p
 
 abbrev Head : Type 0
-Head = tie.At-loop invariant-loop decreases-loop
+Head = tie.At-loop-p invariant-loop decreases-loop
 
 -- a principal is tried
 abbrev Tried : Type 0
-Tried = tie.After-passes-with invariant-loop decreases-loop
+Tried = tie.After-passes_with invariant-loop decreases-loop
 
 module _ (h : Head) where
   abbrev begun : tie.Start invariant-loop decreases-loop
@@ -34,28 +34,28 @@ module _ (h : Head) where
   abbrev x : ℕ
   x = begun.args.x
 
-in_table : tie.Need-returns invariant-loop decreases-loop
-in_table c = let h : tie.After-contains invariant-loop decreases-loop = search in sym (maximal_in _ _ (sym h.contains.ensures ∙ c.if1.true))
+in_table : tie.Need-returns-then-contains invariant-loop decreases-loop
+in_table c = let h : tie.After-contains invariant-loop decreases-loop = search in sym (maximal_in _ _ (sym h.contains.ensures ∙ c.if-contains.true))
 
-not_maximal : tie.Need-returns-2 invariant-loop decreases-loop
+not_maximal : tie.Need-returns-then-not-passes_with invariant-loop decreases-loop
 not_maximal c =
     let q : Tried = search in
-    let i : tie.In-loop invariant-loop decreases-loop = search in
+    let i : tie.In-loop-p invariant-loop decreases-loop = search in
     let h : Head = search in
-    sym (maximal_stops (t h) (x h) h.loop.p (omega (arith, i.loop-test.taken)) (sym q.passes-with.ensures ∙ not-true _ c.if2.true))
+    sym (maximal_stops (t h) (x h) h.loop-p.p (omega (arith, i.loop-p-test.taken)) (sym q.passes_with.ensures ∙ not-true _ c.if-not-passes_with.true))
 
-loop-again : tie.Need-loop-preserved invariant-loop decreases-loop
+loop-again : tie.Need-loop-p-preserved invariant-loop decreases-loop
 loop-again c =
     let q : Tried = search in
     let h : Head = search in
-    (search rules, passes_next (t h) (x h) h.loop.p h.loop.inv.1 (sym q.passes-with.ensures ∙ not-false _ c.if2.false))
+    (search rules, passes_next (t h) (x h) h.loop-p.p h.loop-p.inv.1 (sym q.passes_with.ensures ∙ not-false _ c.if-not-passes_with.false))
 
-is_maximal : tie.Need-returns-3 invariant-loop decreases-loop
+is_maximal : tie.Need-returns invariant-loop decreases-loop
 is_maximal c =
     let h : Head = search in
-    let e : tie.Else1 invariant-loop decreases-loop = search in
+    let e : tie.Else-contains invariant-loop decreases-loop = search in
     let f : tie.After-contains invariant-loop decreases-loop = search in
-    sym (maximal_is (t h) (x h) h.loop.p (omega (arith, h.loop.inv.0, c.loop-test.false)) h.loop.inv.1 (sym f.contains.ensures ∙ e.if1.left))
+    sym (maximal_is (t h) (x h) h.loop-p.p (omega (arith, h.loop-p.inv.0, c.loop-p-test.false)) h.loop-p.inv.1 (sym f.contains.ensures ∙ e.if-contains.left))
 
 pub maximal_false_spec : {M : Type 1} → statement M
 maximal_false_spec =

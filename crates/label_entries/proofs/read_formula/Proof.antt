@@ -20,7 +20,7 @@ abbrev decreases-loop : tie.decreases-loop
 decreases-loop masks t₀ least₀ i₀ t least i = length masks - i
 
 abbrev Head : Type 0
-Head = tie.At-loop invariant-loop decreases-loop
+Head = tie.At-loop-i invariant-loop decreases-loop
 
 module _ (h : Head) where
   abbrev masks : List ℕ
@@ -28,27 +28,27 @@ module _ (h : Head) where
 
 -- a mask is read
 abbrev Read : Type 0
-Read = tie.After-wide invariant-loop decreases-loop
+Read = tie.After-wide-c invariant-loop decreases-loop
 
 module _ (w : Read) where
   abbrev head : Head
   head = search
 
   abbrev i : ℕ
-  i = head.loop.i
+  i = head.loop-i.i
 
   abbrev mask : ℕ
   mask = get_or (masks head) i 0
 
   inside : i < length (masks head)
-  inside = let t : tie.In-loop invariant-loop decreases-loop = search in omega (arith, t.loop-test.taken)
+  inside = let t : tie.In-loop-i invariant-loop decreases-loop = search in omega (arith, t.loop-i-test.taken)
 
   -- it is a byte
   byte : mask < 256
-  byte = omega (arith, w.wide.ensures, w.before.shared-slice-known2.given i)
+  byte = omega (arith, w.wide-c.ensures, w.before.shared_slice_known-in-loop-i-1.given i)
 
-  read_byte : w.wide.result < 256
-  read_byte = omega (arith, byte, w.wide.ensures)
+  read_byte : w.wide-c.result < 256
+  read_byte = omega (arith, byte, w.wide-c.ensures)
 
 -- the table is asked for the principals outside it
 abbrev Asked : Type 0
@@ -58,47 +58,47 @@ module _ (a : Asked) where
   abbrev read : Read
   read = search
 
-  outside : a.contains.result ≡ bit (whole (head read).loop.t) (255 - mask read)
-  outside = a.contains.ensures ∙ ap (λ (x : ℕ). bit (whole (head read).loop.t) (255 - x)) read.wide.ensures
+  outside : a.contains.result ≡ bit (whole (head read).loop-i.t) (255 - mask read)
+  outside = a.contains.ensures ∙ ap (λ (x : ℕ). bit (whole (head read).loop-i.t) (255 - x)) read.wide-c.ensures
 
-too_many : tie.Need-returns invariant-loop decreases-loop
-too_many c = let b : tie.Start invariant-loop decreases-loop = search in formula_long b.args.masks.now (omega (arith, c.if1.true))
+too_many : tie.Need-returns-then-masks-gt-MOST_CLAUSES invariant-loop decreases-loop
+too_many c = let b : tie.Start invariant-loop decreases-loop = search in formula_long b.args.masks.now (omega (arith, c.if-masks-gt-MOST_CLAUSES.true))
 
-not_ascending : tie.Need-returns-2 invariant-loop decreases-loop
+not_ascending : tie.Need-returns-then-c-least invariant-loop decreases-loop
 not_ascending c =
     let w : Read = search in
-    let l = (head w).loop in
-    formula_bad (masks (head w)) (not_above (masks (head w)) l.t l.least l.i l.inv (inside w) (omega (arith, w.wide.ensures, c.if2.true)))
+    let l = (head w).loop-i in
+    formula_bad (masks (head w)) (not_above (masks (head w)) l.t l.least l.i l.inv (inside w) (omega (arith, w.wide-c.ensures, c.if-c-least.true)))
 
-subset_before : tie.Need-returns-3 invariant-loop decreases-loop
+subset_before : tie.Need-returns-then-not-contains invariant-loop decreases-loop
 subset_before c =
     let a : Asked = search in
     let w = read a in
-    let l = (head w).loop in
+    let l = (head w).loop-i in
     formula_bad (masks (head w))
-    (has_subset (masks (head w)) l.t l.least l.i l.inv (inside w) (byte w) (sym (outside a) ∙ not-true _ c.if3.true))
+    (has_subset (masks (head w)) l.t l.least l.i l.inv (inside w) (byte w) (sym (outside a) ∙ not-true _ c.if-not-contains.true))
 
-loop-again : tie.Need-loop-preserved invariant-loop decreases-loop
+loop-again : tie.Need-loop-i-preserved invariant-loop decreases-loop
 loop-again c =
-    let k : tie.After-clause-table invariant-loop decreases-loop = search in
-    let f : tie.Else3 invariant-loop decreases-loop = search in
+    let k : tie.After-clause_table invariant-loop decreases-loop = search in
+    let f : tie.Else-not-contains invariant-loop decreases-loop = search in
     let a : Asked = search in
-    let e : tie.Else2 invariant-loop decreases-loop = search in
+    let e : tie.Else-c-least invariant-loop decreases-loop = search in
     let w = read a in
-    let l = (head w).loop in
-    rw w.wide.ensures
+    let l = (head w).loop-i in
+    rw w.wide-c.ensures
     (passed_more (masks (head w)) l.t l.least l.i l.inv (inside w) (byte w)
-    (omega (arith, w.wide.ensures, e.if2.left)) (sym (outside a) ∙ not-false _ f.if3.left)
-    _ (k.clause-table.ensures ∙ ap (λ (x : ℕ). formula (x ∷ [])) w.wide.ensures) _ c.both.ensures)
+    (omega (arith, w.wide-c.ensures, e.if-c-least.left)) (sym (outside a) ∙ not-false _ f.if-not-contains.left)
+    _ (k.clause_table.ensures ∙ ap (λ (x : ℕ). formula (x ∷ [])) w.wide-c.ensures) _ c.both-t.ensures)
 
-is_read : tie.Need-returns-4 invariant-loop decreases-loop
+is_read : tie.Need-returns invariant-loop decreases-loop
 is_read c =
     let h : Head = search in
-    let e : tie.Else1 invariant-loop decreases-loop = search in
-    let l = h.loop in
-    formula_good (masks h) (omega (arith, e.if1.left))
-    (all_canonical (masks h) l.t l.least l.i l.inv (omega (arith, c.loop-test.false))) _
-    (all_table (masks h) l.t l.least l.i l.inv (omega (arith, c.loop-test.false)))
+    let e : tie.Else-masks-gt-MOST_CLAUSES invariant-loop decreases-loop = search in
+    let l = h.loop-i in
+    formula_good (masks h) (omega (arith, e.if-masks-gt-MOST_CLAUSES.left))
+    (all_canonical (masks h) l.t l.least l.i l.inv (omega (arith, c.loop-i-test.false))) _
+    (all_table (masks h) l.t l.least l.i l.inv (omega (arith, c.loop-i-test.false)))
 
 pub read_formula_spec : {M : Type 1} → statement M
 read_formula_spec =

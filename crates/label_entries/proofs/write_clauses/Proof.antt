@@ -16,11 +16,11 @@ abbrev decreases-loop : tie.decreases-loop
 decreases-loop t out₀ n₀ mask₀ out n mask = 256 - mask
 
 abbrev Head : Type 0
-Head = tie.At-loop invariant-loop decreases-loop
+Head = tie.At-loop-mask invariant-loop decreases-loop
 
 -- a mask is tested
 abbrev Tested : Type 0
-Tested = tie.After-maximal-false invariant-loop decreases-loop
+Tested = tie.After-maximal_false invariant-loop decreases-loop
 
 module _ (f : Tested) where
   abbrev head : Head
@@ -29,29 +29,29 @@ module _ (f : Tested) where
   abbrev t : ℕ
   t = let b : tie.Start invariant-loop decreases-loop = search in whole b.args.t
 
-  inside : head.loop.mask < 256
-  inside = let i : tie.In-loop invariant-loop decreases-loop = search in omega (arith, i.loop-test.taken)
+  inside : head.loop-mask.mask < 256
+  inside = let i : tie.In-loop-mask invariant-loop decreases-loop = search in omega (arith, i.loop-mask-test.taken)
 
-slice-write-out : tie.Need-slice-write-out invariant-loop decreases-loop
-slice-write-out c =
+slice_write-out : tie.Need-bounds-out-n invariant-loop decreases-loop
+slice_write-out c =
     let f : Tested = search in
-    let l = (head f).loop in
-    has_room (t f) l.out l.n l.mask l.inv (inside f) (sym f.Maximal-false.ensures ∙ c.if1.true)
+    let l = (head f).loop-mask in
+    has_room (t f) l.out l.n l.mask l.inv (inside f) (sym f.Maximal-false.ensures ∙ c.if-maximal_false.true)
 
-loop-again : tie.Need-loop-preserved invariant-loop decreases-loop
+loop-again : tie.Need-loop-mask-preserved invariant-loop decreases-loop
 loop-again c =
     let f : Tested = search in
-    let l = (head f).loop in
+    let l = (head f).loop-mask in
     ⊎_elim
     (λ w. rw (w.1, w.2) (write_one (t f) l.out l.n l.mask l.inv (inside f) _ refl (sym f.Maximal-false.ensures ∙ w.0.taken)))
     (λ w. rw (w.1, w.2) (write_on (t f) l.out l.n l.mask l.inv (inside f) (sym f.Maximal-false.ensures ∙ w.0.left)))
-    c.if1.branch
+    c.if-maximal_false.branch
 
-same_length : tie.Need-same-length invariant-loop decreases-loop
-same_length c = let h : Head = search in let b : tie.Start invariant-loop decreases-loop = search in h.loop.inv.whole ∙ sym b.pre
+same_length : tie.Need-shape_of-out invariant-loop decreases-loop
+same_length c = let h : Head = search in let b : tie.Start invariant-loop decreases-loop = search in h.loop-mask.inv.whole ∙ sym b.pre
 
 returns : tie.Need-returns invariant-loop decreases-loop
-returns c = let h : Head = search in write_end _ _ _ _ h.loop.inv (omega (arith, c.loop-test.false))
+returns c = let h : Head = search in write_end _ _ _ _ h.loop-mask.inv (omega (arith, c.loop-mask-test.false))
 
 pub write_clauses_spec : {M : Type 1} → statement M
 write_clauses_spec =
@@ -64,8 +64,8 @@ write_clauses_spec =
     (search rules)
     (search rules)
     (search rules)
-    slice-write-out
-    (λ c. omega (arith, (head (search)).loop.inv.room))
+    slice_write-out
+    (λ c. omega (arith, (head (search)).loop-mask.inv.room))
     (search rules)
     (search rules)
     loop-again

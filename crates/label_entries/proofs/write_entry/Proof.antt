@@ -15,63 +15,63 @@ use Rattle.label_entries.proofs.write_entry.Tie as tie
 
 -- ── the counts ──
 
-module _ (c : tie.After-count-clauses2) where
+module _ (c : tie.After-count_clauses-n) where
   abbrev begun : tie.Start
   begun = search
 
-  abbrev first : tie.After-count-clauses
+  abbrev first : tie.After-count_clauses-m
   first = search
 
   abbrev l : Label
   l = begun.args.l
 
   abbrev out : List ℕ
-  out = begun.args.out.now
+  out = begun.args.out-1.now
 
-  few_secrecy : first.count-clauses.result ≤ 255
-  few_secrecy = omega (arith, first.count-clauses.ensures, clauses_short (whole l.secrecy))
+  few_secrecy : first.count_clauses-m.result ≤ 255
+  few_secrecy = omega (arith, first.count_clauses-m.ensures, clauses_short (whole l.secrecy-1))
 
-  few_integrity : c.count-clauses2.result ≤ 255
-  few_integrity = omega (arith, c.count-clauses2.ensures, clauses_short (whole l.integrity))
+  few_integrity : c.count_clauses-n.result ≤ 255
+  few_integrity = omega (arith, c.count_clauses-n.ensures, clauses_short (whole l.integrity-1))
 
 -- a count fits a byte, and the entry's length a word
-add_a : tie.Need-overflow-add-a
+add_a : tie.Need-overflow_add-a
 add_a c = omega (arith, few_secrecy c)
 
-add_e : tie.Need-overflow-add-e
+add_e : tie.Need-overflow_add-e
 add_e c = omega (arith, few_secrecy c, few_integrity c)
 
-too_short : tie.Need-returns
+too_short : tie.Need-returns-then-out-e
 too_short c =
-    let n : tie.After-count-clauses2 = search in
-    let m = (first n).count-clauses.ensures in (
-      short_answer (l n) (out n) _ _ m n.count-clauses2.ensures (omega (arith, c.if1.true)),
-      short_buffer (l n) (out n) _ _ m n.count-clauses2.ensures (omega (arith, c.if1.true)),
+    let n : tie.After-count_clauses-n = search in
+    let m = (first n).count_clauses-m.ensures in (
+      short_answer (l n) (out n) _ _ m n.count_clauses-n.ensures (omega (arith, c.if-out-e.true)),
+      short_buffer (l n) (out n) _ _ m n.count_clauses-n.ensures (omega (arith, c.if-out-e.true)),
     )
 
 -- ── the parts ──
 
-second_part_fits : tie.Need-slice-bounds-write-clauses-end-2
+second_part_fits : tie.Need-slice_bounds-write_clauses-end-2
 second_part_fits c =
-    let o : tie.After-out = search in
-    let e : tie.Else1 = search in
-    omega (arith, e.if1.left, simp length-set at o.out.given.1)
+    let o : tie.After-out-1 = search in
+    let e : tie.Else-out-e = search in
+    omega (arith, e.if-out-e.left, simp length-set at o.out-1.given.1)
 
-same_length : tie.Need-same-length
+same_length : tie.Need-shape_of-out
 same_length c =
-    let o2 : tie.After-out2 = search in
-    let o : tie.After-out = search in
-    o2.out2.given.1 ∙ o.out.given.1 ∙ simp length-set
+    let o2 : tie.After-out-2-1 = search in
+    let o : tie.After-out-1 = search in
+    o2.out-2-1.given.1 ∙ o.out-1.given.1 ∙ simp length-set
 
-is_written : tie.Need-returns-2
+is_written : tie.Need-returns
 is_written c =
-    let w2 : tie.After-write-clauses2 = search in
-    let w : tie.After-write-clauses = search in
-    let e : tie.Else1 = search in
-    let n : tie.After-count-clauses2 = search in
-    let m = (first n).count-clauses.ensures in (
-      whole_answer (l n) (out n) _ _ m n.count-clauses2.ensures (omega (arith, e.if1.left)),
-      whole_buffer (l n) (out n) _ _ m n.count-clauses2.ensures (omega (arith, e.if1.left)) _ _ w.write-clauses.ensures w2.write-clauses2.ensures,
+    let w2 : tie.After-write_clauses-2 = search in
+    let w : tie.After-write_clauses = search in
+    let e : tie.Else-out-e = search in
+    let n : tie.After-count_clauses-n = search in
+    let m = (first n).count_clauses-m.ensures in (
+      whole_answer (l n) (out n) _ _ m n.count_clauses-n.ensures (omega (arith, e.if-out-e.left)),
+      whole_buffer (l n) (out n) _ _ m n.count_clauses-n.ensures (omega (arith, e.if-out-e.left)) _ _ w.write_clauses.ensures w2.write_clauses-2.ensures,
     )
 
 pub write_entry_spec : {M : Type 1} → statement M

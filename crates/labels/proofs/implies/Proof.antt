@@ -15,11 +15,11 @@ module _ (s : tie.Start) where
 
 returns : tie.Need-returns
 returns c =
-    let w2 : tie.After-beyond3 = search in
-    let w1 : tie.After-beyond2 = search in
+    let w2 : tie.After-beyond-3 = search in
+    let w1 : tie.After-beyond-2 = search in
     let w0 : tie.After-beyond = search in
     let s : tie.Start = search in
-    no_gaps s.args.a s.args.b (first s) (second s) _ _ _ _ w0.beyond.ensures w1.beyond2.ensures w2.beyond3.ensures c.beyond4.ensures
+    no_gaps s.args.a s.args.b (first s) (second s) _ _ _ _ w0.beyond.ensures w1.beyond-2.ensures w2.beyond-3.ensures c.beyond-4.ensures
 
 pub implies_spec : {M : Type 1} → statement M
 implies_spec =

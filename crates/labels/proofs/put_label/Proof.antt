@@ -9,10 +9,10 @@ use Rattle.labels.proofs.put_label.Tie as tie
 
 returns : tie.Need-returns
 returns c =
-    let second : tie.After-put-table2 = search in
-    let first : tie.After-put-table = search in
+    let second : tie.After-put_table-2 = search in
+    let first : tie.After-put_table = search in
     let s : tie.Start = search in
-    second.put-table2.ensures ∙ ap (λ (ws : List ℕ). with_table s.args.l.integrity ws (s.args.b + 4)) first.put-table.ensures
+    second.put_table-2.ensures ∙ ap (λ (ws : List ℕ). with_table s.args.l.integrity ws (s.args.b + 4)) first.put_table.ensures
 
 pub put_label_spec : {M : Type 1} → statement M
 put_label_spec =
