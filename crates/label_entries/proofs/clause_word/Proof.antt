@@ -6,10 +6,10 @@ use Rattle.label_entries.proofs.clause_word.Statement.{statement}
 use Rattle.label_entries.proofs.clause_word.Tie as tie
 
 all : tie.Need-returns-then-mask-k-ne0
-all c = let s : tie.Start = search in clause_all s.args.mask s.args.k s.pre.0 (nonzero-some _ c.if-mask-k-ne0.true)
+all c = let s : tie.Start = search in clause_all s.args.mask s.args.k s.requires.0 (nonzero-some _ c.if-mask-k-ne0.true)
 
 six : tie.Need-returns
-six c = let s : tie.Start = search in s.pre.1 ∙ clause_six s.args.mask s.args.k s.pre.0 (ap nonzero c.if-mask-k-ne0.false)
+six c = let s : tie.Start = search in s.requires.1 ∙ clause_six s.args.mask s.args.k s.requires.0 (ap nonzero c.if-mask-k-ne0.false)
 
 pub clause_word_spec : {M : Type 1} → statement M
 clause_word_spec = tie.close (tie.spec all six)

@@ -9,10 +9,10 @@ use Rattle.label_entries.proofs.Listing.{Counting, count_start, count_on, count_
 use Rattle.label_entries.proofs.count_clauses.Statement.{statement}
 use Rattle.label_entries.proofs.count_clauses.Tie as tie
 
-abbrev invariant-loop : tie.invariant-loop
+abbrev invariant-loop : tie.invariant-loop-c
 invariant-loop t n₀ c₀ n c = Counting (whole t) n c
 
-abbrev decreases-loop : tie.decreases-loop
+abbrev decreases-loop : tie.decreases-loop-c
 decreases-loop t n₀ c₀ n c = 256 - c
 
 abbrev Head : Type 0
@@ -25,12 +25,12 @@ loop-again c =
     let h : Head = search in
     let b : tie.Start invariant-loop decreases-loop = search in
     ⊎_elim
-    (λ w. rw w.1 (count_one (whole b.args.t) h.loop-c.n h.loop-c.c h.loop-c.inv i.loop-c-test.taken (sym f.Maximal-false.ensures ∙ w.0.taken)))
-    (λ w. rw w.1 (count_on (whole b.args.t) h.loop-c.n h.loop-c.c h.loop-c.inv i.loop-c-test.taken (sym f.Maximal-false.ensures ∙ w.0.left)))
-    c.if-maximal_false.branch
+    (λ w. rw w.1 (count_one (whole b.args.t) h.loop-c.n h.loop-c.c h.loop-c.invariant i.loop-c-test.true (sym f.Maximal-false.ensures ∙ w.0.true)))
+    (λ w. rw w.1 (count_on (whole b.args.t) h.loop-c.n h.loop-c.c h.loop-c.invariant i.loop-c-test.true (sym f.Maximal-false.ensures ∙ w.0.false)))
+    c.if-maximal_false.branch-raw
 
 returns : tie.Need-returns invariant-loop decreases-loop
-returns c = let h : Head = search in count_end _ _ _ h.loop-c.inv (omega (arith, c.loop-c-test.false))
+returns c = let h : Head = search in count_end _ _ _ h.loop-c.invariant (omega (arith, c.loop-c-test.false))
 
 pub count_clauses_spec : {M : Type 1} → statement M
 count_clauses_spec =

@@ -10,10 +10,10 @@ use Rattle.label_entries.proofs.Words.{clause_with, clause_without, single_table
 use Rattle.label_entries.proofs.first_six.Statement.{statement}
 use Rattle.label_entries.proofs.first_six.Tie as tie
 
-abbrev invariant-loop : tie.invariant-loop
+abbrev invariant-loop : tie.invariant-loop-p
 invariant-loop mask t₀ p₀ t p = (p ≤ 6) × (t ≡ table 6 (mask % 2 ^ p ∷ []))
 
-abbrev decreases-loop : tie.decreases-loop
+abbrev decreases-loop : tie.decreases-loop-p
 decreases-loop mask t₀ p₀ t p = 6 - p
 
 abbrev Head : Type 0
@@ -29,15 +29,15 @@ loop-again c =
     let l : Head = search in
     let b : tie.Start invariant-loop decreases-loop = search in
     let p = l.loop-p.p in (
-      omega (arith, i.loop-p-test.taken),
+      omega (arith, i.loop-p-test.true),
       ⊎_elim
-          (λ w. w.1 ∙ clause_with 6 b.args.mask p _ l.loop-p.inv.1 _ (single_table p (omega (arith, i.loop-p-test.taken))) (sym h.has.ensures ∙ w.0.taken))
-          (λ w. w.1 ∙ clause_without 6 b.args.mask p _ l.loop-p.inv.1 (sym h.has.ensures ∙ w.0.left))
-          c.if-has.branch,
+          (λ w. w.1 ∙ clause_with 6 b.args.mask p _ l.loop-p.invariant.1 _ (single_table p (omega (arith, i.loop-p-test.true))) (sym h.has.ensures ∙ w.0.true))
+          (λ w. w.1 ∙ clause_without 6 b.args.mask p _ l.loop-p.invariant.1 (sym h.has.ensures ∙ w.0.false))
+          c.if-has.branch-raw,
     )
 
 returns : tie.Need-returns invariant-loop decreases-loop
-returns c = let l : Head = search in l.loop-p.inv.1 ∙ clause_whole _ _ (omega (arith, l.loop-p.inv.0, c.loop-p-test.false))
+returns c = let l : Head = search in l.loop-p.invariant.1 ∙ clause_whole _ _ (omega (arith, l.loop-p.invariant.0, c.loop-p-test.false))
 
 pub first_six_spec : {M : Type 1} → statement M
 first_six_spec =

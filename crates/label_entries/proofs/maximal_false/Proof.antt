@@ -11,10 +11,10 @@ use Rattle.label_entries.proofs.MaximalFalse.{maximal_in, maximal_stops, passes_
 use Rattle.label_entries.proofs.maximal_false.Statement.{statement}
 use Rattle.label_entries.proofs.maximal_false.Tie as tie
 
-abbrev invariant-loop : tie.invariant-loop
+abbrev invariant-loop : tie.invariant-loop-p
 invariant-loop t x p₀ p = (p ≤ principals) × T (all_below p (passes_with (whole t) x))
 
-abbrev decreases-loop : tie.decreases-loop
+abbrev decreases-loop : tie.decreases-loop-p
 decreases-loop t x p₀ p = principals - p
 
 abbrev Head : Type 0
@@ -42,20 +42,20 @@ not_maximal c =
     let q : Tried = search in
     let i : tie.In-loop-p invariant-loop decreases-loop = search in
     let h : Head = search in
-    sym (maximal_stops (t h) (x h) h.loop-p.p (omega (arith, i.loop-p-test.taken)) (sym q.passes_with.ensures ∙ not-true _ c.if-not-passes_with.true))
+    sym (maximal_stops (t h) (x h) h.loop-p.p (omega (arith, i.loop-p-test.true)) (sym q.passes_with.ensures ∙ not-true _ c.if-not-passes_with.true))
 
 loop-again : tie.Need-loop-p-preserved invariant-loop decreases-loop
 loop-again c =
     let q : Tried = search in
     let h : Head = search in
-    (search rules, passes_next (t h) (x h) h.loop-p.p h.loop-p.inv.1 (sym q.passes_with.ensures ∙ not-false _ c.if-not-passes_with.false))
+    (search rules, passes_next (t h) (x h) h.loop-p.p h.loop-p.invariant.1 (sym q.passes_with.ensures ∙ not-false _ c.if-not-passes_with.false))
 
 is_maximal : tie.Need-returns invariant-loop decreases-loop
 is_maximal c =
     let h : Head = search in
     let e : tie.Else-contains invariant-loop decreases-loop = search in
     let f : tie.After-contains invariant-loop decreases-loop = search in
-    sym (maximal_is (t h) (x h) h.loop-p.p (omega (arith, h.loop-p.inv.0, c.loop-p-test.false)) h.loop-p.inv.1 (sym f.contains.ensures ∙ e.if-contains.left))
+    sym (maximal_is (t h) (x h) h.loop-p.p (omega (arith, h.loop-p.invariant.0, c.loop-p-test.false)) h.loop-p.invariant.1 (sym f.contains.ensures ∙ e.if-contains.false))
 
 pub maximal_false_spec : {M : Type 1} → statement M
 maximal_false_spec =

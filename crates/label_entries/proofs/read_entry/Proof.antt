@@ -49,9 +49,9 @@ integrity_malformed c =
 
 entry_read : tie.Need-returns
 entry_read c =
-    let i : tie.In-Read-read_formula-2 = search in
+    let i : tie.After-integrity = search in
     let g : tie.After-read_formula-2 = search in
-    let s : tie.In-Read-2 = search in
+    let s : tie.After-secrecy = search in
     let f : tie.After-read_formula = search in
     both_read (xs (e f)) (whole (e f)) _ _ (sym s.secrecy-1.given.1 ∙ secrecy_is f) (sym i.integrity-1.given.1 ∙ integrity_is g)
 

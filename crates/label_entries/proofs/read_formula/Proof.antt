@@ -13,10 +13,10 @@ use Rattle.label_entries.proofs.Reading.{formula_long, formula_bad, formula_good
 use Rattle.label_entries.proofs.read_formula.Statement.{statement}
 use Rattle.label_entries.proofs.read_formula.Tie as tie
 
-abbrev invariant-loop : tie.invariant-loop
+abbrev invariant-loop : tie.invariant-loop-i
 invariant-loop masks t₀ least₀ i₀ t least i = Passed masks t least i
 
-abbrev decreases-loop : tie.decreases-loop
+abbrev decreases-loop : tie.decreases-loop-i
 decreases-loop masks t₀ least₀ i₀ t least i = length masks - i
 
 abbrev Head : Type 0
@@ -41,11 +41,11 @@ module _ (w : Read) where
   mask = get_or (masks head) i 0
 
   inside : i < length (masks head)
-  inside = let t : tie.In-loop-i invariant-loop decreases-loop = search in omega (arith, t.loop-i-test.taken)
+  inside = let t : tie.In-loop-i invariant-loop decreases-loop = search in omega (arith, t.loop-i-test.true)
 
   -- it is a byte
   byte : mask < 256
-  byte = omega (arith, w.wide-c.ensures, w.before.shared_slice_known-in-loop-i-1.given i)
+  byte = omega (arith, w.wide-c.ensures, w.before.shared_slice_known2.given i)
 
   read_byte : w.wide-c.result < 256
   read_byte = omega (arith, byte, w.wide-c.ensures)
@@ -68,7 +68,7 @@ not_ascending : tie.Need-returns-then-c-least invariant-loop decreases-loop
 not_ascending c =
     let w : Read = search in
     let l = (head w).loop-i in
-    formula_bad (masks (head w)) (not_above (masks (head w)) l.t l.least l.i l.inv (inside w) (omega (arith, w.wide-c.ensures, c.if-c-least.true)))
+    formula_bad (masks (head w)) (not_above (masks (head w)) l.t l.least l.i l.invariant (inside w) (omega (arith, w.wide-c.ensures, c.if-c-least.true)))
 
 subset_before : tie.Need-returns-then-not-contains invariant-loop decreases-loop
 subset_before c =
@@ -76,7 +76,7 @@ subset_before c =
     let w = read a in
     let l = (head w).loop-i in
     formula_bad (masks (head w))
-    (has_subset (masks (head w)) l.t l.least l.i l.inv (inside w) (byte w) (sym (outside a) ∙ not-true _ c.if-not-contains.true))
+    (has_subset (masks (head w)) l.t l.least l.i l.invariant (inside w) (byte w) (sym (outside a) ∙ not-true _ c.if-not-contains.true))
 
 loop-again : tie.Need-loop-i-preserved invariant-loop decreases-loop
 loop-again c =
@@ -87,8 +87,8 @@ loop-again c =
     let w = read a in
     let l = (head w).loop-i in
     rw w.wide-c.ensures
-    (passed_more (masks (head w)) l.t l.least l.i l.inv (inside w) (byte w)
-    (omega (arith, w.wide-c.ensures, e.if-c-least.left)) (sym (outside a) ∙ not-false _ f.if-not-contains.left)
+    (passed_more (masks (head w)) l.t l.least l.i l.invariant (inside w) (byte w)
+    (omega (arith, w.wide-c.ensures, e.if-c-least.false)) (sym (outside a) ∙ not-false _ f.if-not-contains.false)
     _ (k.clause_table.ensures ∙ ap (λ (x : ℕ). formula (x ∷ [])) w.wide-c.ensures) _ c.both-t.ensures)
 
 is_read : tie.Need-returns invariant-loop decreases-loop
@@ -96,9 +96,9 @@ is_read c =
     let h : Head = search in
     let e : tie.Else-masks-gt-MOST_CLAUSES invariant-loop decreases-loop = search in
     let l = h.loop-i in
-    formula_good (masks h) (omega (arith, e.if-masks-gt-MOST_CLAUSES.left))
-    (all_canonical (masks h) l.t l.least l.i l.inv (omega (arith, c.loop-i-test.false))) _
-    (all_table (masks h) l.t l.least l.i l.inv (omega (arith, c.loop-i-test.false)))
+    formula_good (masks h) (omega (arith, e.if-masks-gt-MOST_CLAUSES.false))
+    (all_canonical (masks h) l.t l.least l.i l.invariant (omega (arith, c.loop-i-test.false))) _
+    (all_table (masks h) l.t l.least l.i l.invariant (omega (arith, c.loop-i-test.false)))
 
 pub read_formula_spec : {M : Type 1} → statement M
 read_formula_spec =

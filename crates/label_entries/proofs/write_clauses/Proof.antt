@@ -9,10 +9,10 @@ use Rattle.label_entries.proofs.Listing.{Writing, write_start, has_room, write_o
 use Rattle.label_entries.proofs.write_clauses.Statement.{statement}
 use Rattle.label_entries.proofs.write_clauses.Tie as tie
 
-abbrev invariant-loop : tie.invariant-loop
+abbrev invariant-loop : tie.invariant-loop-mask
 invariant-loop t out₀ n₀ mask₀ out n mask = Writing (whole t) out n mask
 
-abbrev decreases-loop : tie.decreases-loop
+abbrev decreases-loop : tie.decreases-loop-mask
 decreases-loop t out₀ n₀ mask₀ out n mask = 256 - mask
 
 abbrev Head : Type 0
@@ -30,28 +30,28 @@ module _ (f : Tested) where
   t = let b : tie.Start invariant-loop decreases-loop = search in whole b.args.t
 
   inside : head.loop-mask.mask < 256
-  inside = let i : tie.In-loop-mask invariant-loop decreases-loop = search in omega (arith, i.loop-mask-test.taken)
+  inside = let i : tie.In-loop-mask invariant-loop decreases-loop = search in omega (arith, i.loop-mask-test.true)
 
 slice_write-out : tie.Need-bounds-out-n invariant-loop decreases-loop
 slice_write-out c =
     let f : Tested = search in
     let l = (head f).loop-mask in
-    has_room (t f) l.out l.n l.mask l.inv (inside f) (sym f.Maximal-false.ensures ∙ c.if-maximal_false.true)
+    has_room (t f) l.out l.n l.mask l.invariant (inside f) (sym f.Maximal-false.ensures ∙ c.if-maximal_false.true)
 
 loop-again : tie.Need-loop-mask-preserved invariant-loop decreases-loop
 loop-again c =
     let f : Tested = search in
     let l = (head f).loop-mask in
     ⊎_elim
-    (λ w. rw (w.1, w.2) (write_one (t f) l.out l.n l.mask l.inv (inside f) _ refl (sym f.Maximal-false.ensures ∙ w.0.taken)))
-    (λ w. rw (w.1, w.2) (write_on (t f) l.out l.n l.mask l.inv (inside f) (sym f.Maximal-false.ensures ∙ w.0.left)))
-    c.if-maximal_false.branch
+    (λ w. rw (w.1, w.2) (write_one (t f) l.out l.n l.mask l.invariant (inside f) _ refl (sym f.Maximal-false.ensures ∙ w.0.true)))
+    (λ w. rw (w.1, w.2) (write_on (t f) l.out l.n l.mask l.invariant (inside f) (sym f.Maximal-false.ensures ∙ w.0.false)))
+    c.if-maximal_false.branch-raw
 
 same_length : tie.Need-shape_of-out invariant-loop decreases-loop
-same_length c = let h : Head = search in let b : tie.Start invariant-loop decreases-loop = search in h.loop-mask.inv.whole ∙ sym b.pre
+same_length c = let h : Head = search in let b : tie.Start invariant-loop decreases-loop = search in h.loop-mask.invariant.whole ∙ sym b.requires
 
 returns : tie.Need-returns invariant-loop decreases-loop
-returns c = let h : Head = search in write_end _ _ _ _ h.loop-mask.inv (omega (arith, c.loop-mask-test.false))
+returns c = let h : Head = search in write_end _ _ _ _ h.loop-mask.invariant (omega (arith, c.loop-mask-test.false))
 
 pub write_clauses_spec : {M : Type 1} → statement M
 write_clauses_spec =
@@ -59,13 +59,13 @@ write_clauses_spec =
     (tie.spec
     invariant-loop
     decreases-loop
-    (λ c. let b : tie.Start invariant-loop decreases-loop = search in write_start _ _ b.pre)
+    (λ c. let b : tie.Start invariant-loop decreases-loop = search in write_start _ _ b.requires)
     (search rules)
     (search rules)
     (search rules)
     (search rules)
     slice_write-out
-    (λ c. omega (arith, (head (search)).loop-mask.inv.room))
+    (λ c. omega (arith, (head (search)).loop-mask.invariant.room))
     (search rules)
     (search rules)
     loop-again

@@ -26,13 +26,13 @@ module _ (c : tie.After-count_clauses-n) where
   l = begun.args.l
 
   abbrev out : List ℕ
-  out = begun.args.out-1.now
+  out = begun.args.out.now
 
   few_secrecy : first.count_clauses-m.result ≤ 255
-  few_secrecy = omega (arith, first.count_clauses-m.ensures, clauses_short (whole l.secrecy-1))
+  few_secrecy = omega (arith, first.count_clauses-m.ensures, clauses_short (whole l.secrecy))
 
   few_integrity : c.count_clauses-n.result ≤ 255
-  few_integrity = omega (arith, c.count_clauses-n.ensures, clauses_short (whole l.integrity-1))
+  few_integrity = omega (arith, c.count_clauses-n.ensures, clauses_short (whole l.integrity))
 
 -- a count fits a byte, and the entry's length a word
 add_a : tie.Need-overflow_add-a
@@ -55,7 +55,7 @@ second_part_fits : tie.Need-slice_bounds-write_clauses-end-2
 second_part_fits c =
     let o : tie.After-out-1 = search in
     let e : tie.Else-out-e = search in
-    omega (arith, e.if-out-e.left, simp length-set at o.out-1.given.1)
+    omega (arith, e.if-out-e.false, simp length-set at o.out-1.given.1)
 
 same_length : tie.Need-shape_of-out
 same_length c =
@@ -70,8 +70,8 @@ is_written c =
     let e : tie.Else-out-e = search in
     let n : tie.After-count_clauses-n = search in
     let m = (first n).count_clauses-m.ensures in (
-      whole_answer (l n) (out n) _ _ m n.count_clauses-n.ensures (omega (arith, e.if-out-e.left)),
-      whole_buffer (l n) (out n) _ _ m n.count_clauses-n.ensures (omega (arith, e.if-out-e.left)) _ _ w.write_clauses.ensures w2.write_clauses-2.ensures,
+      whole_answer (l n) (out n) _ _ m n.count_clauses-n.ensures (omega (arith, e.if-out-e.false)),
+      whole_buffer (l n) (out n) _ _ m n.count_clauses-n.ensures (omega (arith, e.if-out-e.false)) _ _ w.write_clauses.ensures w2.write_clauses-2.ensures,
     )
 
 pub write_entry_spec : {M : Type 1} → statement M
