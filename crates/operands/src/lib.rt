@@ -360,6 +360,7 @@ fn done(frames: usize) -> Task
 }
 
 // What an instruction has to look at, with so many values and frames.
+#[tactic(auto, unfolding(crate::specs::Tasks::task_of))]
 pub fn task_of(i: Instr, height: usize, frames: usize, records: &[u8]) -> Task
     ensures { result ≡ task_of i height frames records.now }
 {

@@ -5,15 +5,15 @@ use Rattle.operands.proofs.Inputs.{label_out}
 use Rattle.operands.proofs.label_at.Statement.{statement}
 use Rattle.operands.proofs.label_at.Tie as tie
 
-past_end : tie.Need-returns
+past_end : tie.Need-returns-then-i-ge32
 past_end c =
-    let t : tie.Then1 = search in
+    let t : tie.Then-i-ge32 = search in
     let s : tie.Start = search in
-    c.no_label.ensures ∙ label_out _ _ s.pre t.if1.taken
+    c.no_label.ensures ∙ label_out _ _ s.requires t.if-i-ge32.true
 
-in_file : tie.Need-returns-2
+in_file : tie.Need-returns
 unfolding label_in
-in_file c = c.label-from.ensures
+in_file c = c.label_from.ensures
 
 pub label_at_spec : {M : Type 1} → statement M
 label_at_spec =
