@@ -25,8 +25,8 @@ loop-again c =
     let h : Head = search in
     let b : tie.Start invariant-loop decreases-loop = search in
     ⊎_elim
-    (λ w. rw w.1 (count_one (whole b.args.t) h.loop-c.n h.loop-c.c h.loop-c.invariant i.loop-c-test.true (sym f.Maximal-false.ensures ∙ w.0.true)))
-    (λ w. rw w.1 (count_on (whole b.args.t) h.loop-c.n h.loop-c.c h.loop-c.invariant i.loop-c-test.true (sym f.Maximal-false.ensures ∙ w.0.false)))
+    (λ w. rw w.n-is (count_one (whole b.args.t) h.loop-c.n h.loop-c.c h.loop-c.invariant i.loop-c-test.true (sym f.maximal_false.ensures ∙ w.if-maximal_false.true)))
+    (λ w. rw w.n-is (count_on (whole b.args.t) h.loop-c.n h.loop-c.c h.loop-c.invariant i.loop-c-test.true (sym f.maximal_false.ensures ∙ w.if-maximal_false.false)))
     c.if-maximal_false.branch-raw
 
 returns : tie.Need-returns invariant-loop decreases-loop

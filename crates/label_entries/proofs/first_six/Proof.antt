@@ -31,8 +31,8 @@ loop-again c =
     let p = l.loop-p.p in (
       omega (arith, i.loop-p-test.true),
       ⊎_elim
-          (λ w. w.1 ∙ clause_with 6 b.args.mask p _ l.loop-p.invariant.1 _ (single_table p (omega (arith, i.loop-p-test.true))) (sym h.has.ensures ∙ w.0.true))
-          (λ w. w.1 ∙ clause_without 6 b.args.mask p _ l.loop-p.invariant.1 (sym h.has.ensures ∙ w.0.false))
+          (λ w. w.t-is ∙ clause_with 6 b.args.mask p _ l.loop-p.invariant.1 _ (single_table p (omega (arith, i.loop-p-test.true))) (sym h.has.ensures ∙ w.if-has.true))
+          (λ w. w.t-is ∙ clause_without 6 b.args.mask p _ l.loop-p.invariant.1 (sym h.has.ensures ∙ w.if-has.false))
           c.if-has.branch-raw,
     )
 

@@ -3,7 +3,6 @@ use mathlib.Core.Path.{sym, ◌∙◌}
 use Prim.Native.Nat.{ℕ, ◌≤◌, ◌-◌}
 use native.Mathlib.Omega.{arith}
 use borrow.Author.Rules.{rules}
-use borrow.Author.Tests.{not-true, not-false}
 use lib.Dec.{T}
 use Rattle.labels.specs.Tables.{principals, whole}
 use Rattle.formulas.specs.Normal.{all_below, passes_with}
@@ -42,13 +41,13 @@ not_maximal c =
     let q : Tried = search in
     let i : tie.In-loop-p invariant-loop decreases-loop = search in
     let h : Head = search in
-    sym (maximal_stops (t h) (x h) h.loop-p.p (omega (arith, i.loop-p-test.true)) (sym q.passes_with.ensures ∙ not-true _ c.if-not-passes_with.true))
+    sym (maximal_stops (t h) (x h) h.loop-p.p (omega (arith, i.loop-p-test.true)) (sym q.passes_with.ensures ∙ c.if-not-passes_with.true))
 
 loop-again : tie.Need-loop-p-preserved invariant-loop decreases-loop
 loop-again c =
     let q : Tried = search in
     let h : Head = search in
-    (search rules, passes_next (t h) (x h) h.loop-p.p h.loop-p.invariant.1 (sym q.passes_with.ensures ∙ not-false _ c.if-not-passes_with.false))
+    (search rules, passes_next (t h) (x h) h.loop-p.p h.loop-p.invariant.1 (sym q.passes_with.ensures ∙ c.if-not-passes_with.false))
 
 is_maximal : tie.Need-returns invariant-loop decreases-loop
 is_maximal c =

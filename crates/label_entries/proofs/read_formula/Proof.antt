@@ -4,7 +4,6 @@ use mathlib.Core.Path.{◌≡◌, sym, ap, ◌∙◌}
 use Prim.Native.Nat.{ℕ, ◌-◌, ◌<◌}
 use native.Mathlib.Omega.{arith}
 use borrow.Author.Rules.{rules}
-use borrow.Author.Tests.{not-true, not-false}
 use lib.ListN.{length, get_or}
 use Rattle.formulas.specs.Bits.{bit}
 use Rattle.labels.specs.Tables.{whole}
@@ -45,7 +44,7 @@ module _ (w : Read) where
 
   -- it is a byte
   byte : mask < 256
-  byte = omega (arith, w.wide-c.ensures, w.before.shared_slice_known2.given i)
+  byte = omega (arith, w.wide-c.ensures, w.shared_slice_known-in-loop-i-1.given i)
 
   read_byte : w.wide-c.result < 256
   read_byte = omega (arith, byte, w.wide-c.ensures)
@@ -76,7 +75,7 @@ subset_before c =
     let w = read a in
     let l = (head w).loop-i in
     formula_bad (masks (head w))
-    (has_subset (masks (head w)) l.t l.least l.i l.invariant (inside w) (byte w) (sym (outside a) ∙ not-true _ c.if-not-contains.true))
+    (has_subset (masks (head w)) l.t l.least l.i l.invariant (inside w) (byte w) (sym (outside a) ∙ c.if-not-contains.true))
 
 loop-again : tie.Need-loop-i-preserved invariant-loop decreases-loop
 loop-again c =
@@ -88,7 +87,7 @@ loop-again c =
     let l = (head w).loop-i in
     rw w.wide-c.ensures
     (passed_more (masks (head w)) l.t l.least l.i l.invariant (inside w) (byte w)
-    (omega (arith, w.wide-c.ensures, e.if-c-least.false)) (sym (outside a) ∙ not-false _ f.if-not-contains.false)
+    (omega (arith, w.wide-c.ensures, e.if-c-least.false)) (sym (outside a) ∙ f.if-not-contains.false)
     _ (k.clause_table.ensures ∙ ap (λ (x : ℕ). formula (x ∷ [])) w.wide-c.ensures) _ c.both-t.ensures)
 
 is_read : tie.Need-returns invariant-loop decreases-loop

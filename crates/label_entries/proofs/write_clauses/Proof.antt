@@ -36,15 +36,15 @@ slice_write-out : tie.Need-bounds-out-n invariant-loop decreases-loop
 slice_write-out c =
     let f : Tested = search in
     let l = (head f).loop-mask in
-    has_room (t f) l.out l.n l.mask l.invariant (inside f) (sym f.Maximal-false.ensures ∙ c.if-maximal_false.true)
+    has_room (t f) l.out l.n l.mask l.invariant (inside f) (sym f.maximal_false.ensures ∙ c.if-maximal_false.true)
 
 loop-again : tie.Need-loop-mask-preserved invariant-loop decreases-loop
 loop-again c =
     let f : Tested = search in
     let l = (head f).loop-mask in
     ⊎_elim
-    (λ w. rw (w.1, w.2) (write_one (t f) l.out l.n l.mask l.invariant (inside f) _ refl (sym f.Maximal-false.ensures ∙ w.0.true)))
-    (λ w. rw (w.1, w.2) (write_on (t f) l.out l.n l.mask l.invariant (inside f) (sym f.Maximal-false.ensures ∙ w.0.false)))
+    (λ w. rw (w.out-is, w.n-is) (write_one (t f) l.out l.n l.mask l.invariant (inside f) _ refl (sym f.maximal_false.ensures ∙ w.if-maximal_false.true)))
+    (λ w. rw (w.out-is, w.n-is) (write_on (t f) l.out l.n l.mask l.invariant (inside f) (sym f.maximal_false.ensures ∙ w.if-maximal_false.false)))
     c.if-maximal_false.branch-raw
 
 same_length : tie.Need-shape_of-out invariant-loop decreases-loop
