@@ -10,12 +10,12 @@ use Rattle.view_fields.proofs.write_label.Tie as tie
 returns : tie.Need-returns
 unfolding label_field
 returns c =
-    let second : tie.After-write-table2 = search in
-    let first : tie.After-write-table = search in
+    let second : tie.After-write_table-2 = search in
+    let first : tie.After-write_table = search in
     let start : tie.Start = search in
     let l = start.args.l in
     two (little_endian 32 (whole l.secrecy)) (little_endian 32 (whole l.integrity)) start.args.out.now
-    (length_number 32 (whole l.secrecy)) (length_number 32 (whole l.integrity)) start.pre first.write-table.ensures second.write-table2.ensures
+    (length_number 32 (whole l.secrecy)) (length_number 32 (whole l.integrity)) start.requires first.write_table.ensures second.write_table-2.ensures
 
 pub write_label_spec : {M : Type 1} → statement M
 write_label_spec =

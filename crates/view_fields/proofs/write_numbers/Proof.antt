@@ -10,14 +10,14 @@ use Rattle.view_fields.proofs.write_numbers.Tie as tie
 returns : tie.Need-returns
 unfolding numbers
 returns c =
-    let third : tie.After-write-number3 = search in
-    let second : tie.After-write-number2 = search in
-    let first : tie.After-write-number = search in
+    let third : tie.After-write_number-3 = search in
+    let second : tie.After-write_number-2 = search in
+    let first : tie.After-write_number = search in
     let start : tie.Start = search in
     let a = start.args in
     three (little_endian 2 a.a) (little_endian 2 a.b) (little_endian 2 a.c) a.out.now
-    (length_number 2 a.a) (length_number 2 a.b) (length_number 2 a.c) start.pre
-    first.write-number.ensures second.write-number2.ensures third.write-number3.ensures
+    (length_number 2 a.a) (length_number 2 a.b) (length_number 2 a.c) start.requires
+    first.write_number.ensures second.write_number-2.ensures third.write_number-3.ensures
 
 pub write_numbers_spec : {M : Type 1} → statement M
 write_numbers_spec =

@@ -7,7 +7,7 @@ use borrow.Author.Rules.{rules}
 use Rattle.view_fields.proofs.write_pair.Statement.{statement}
 use Rattle.view_fields.proofs.write_pair.Tie as tie
 
-second_fits : tie.Need-slice-write-out-2
+second_fits : tie.Need-bounds-out-1
 second_fits c = simp length-set (omega arith)
 
 returns : tie.Need-returns

@@ -18,15 +18,15 @@ words_fit s = record { fits0 = omega arith; fits1 = omega arith; fits2 = omega a
 
 returns : tie.Need-returns
 returns c =
-    let fourth : tie.After-write-number4 = search in
-    let third : tie.After-write-number3 = search in
-    let second : tie.After-write-number2 = search in
-    let first : tie.After-write-number = search in
+    let fourth : tie.After-write_number-4 = search in
+    let third : tie.After-write_number-3 = search in
+    let second : tie.After-write_number-2 = search in
+    let first : tie.After-write_number = search in
     let start : tie.Start = search in
     let t = start.args.t in
     four (little_endian 8 t.word0) (little_endian 8 t.word1) (little_endian 8 t.word2) (little_endian 8 t.word3) start.args.out.now
-    (length_number 8 t.word0) (length_number 8 t.word1) (length_number 8 t.word2) (length_number 8 t.word3) start.pre
-    first.write-number.ensures second.write-number2.ensures third.write-number3.ensures fourth.write-number4.ensures
+    (length_number 8 t.word0) (length_number 8 t.word1) (length_number 8 t.word2) (length_number 8 t.word3) start.requires
+    first.write_number.ensures second.write_number-2.ensures third.write_number-3.ensures fourth.write_number-4.ensures
     ∙ ap (λ (v : List ℕ). over v start.args.out.now) (table_bytes t (words_fit start))
 
 pub write_table_spec : {M : Type 1} → statement M
