@@ -6,10 +6,10 @@ use borrow.Author.Rules.{rules}
 use Rattle.store.proofs.clear.Statement.{statement}
 use Rattle.store.proofs.clear.Tie as tie
 
-place_emptied : tie.Need-returns
-place_emptied c = let start : tie.Start = search in slot_clear start.args.store.now start.args.p (omega arith) start.pre
+place_emptied : tie.Need-returns-then-p-lt-PLACES
+place_emptied c = let start : tie.Start = search in slot_clear start.args.store.now start.args.p (omega arith) start.requires
 
-no_place : tie.Need-returns-2
+no_place : tie.Need-returns-else-p-lt-PLACES
 no_place c = let start : tie.Start = search in slot_keep start.args.store.now start.args.p _ (omega arith)
 
 pub clear_spec : {M : Type 1} → statement M
