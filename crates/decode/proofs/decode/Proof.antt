@@ -9,16 +9,16 @@ use borrow.Author.Rules.{rules}
 use Rattle.decode.proofs.decode.Statement.{statement}
 use Rattle.decode.proofs.decode.Tie as tie
 
-past_end : tie.Need-returns
+past_end : tie.Need-returns-then-code-pc
 unfolding fetch after instrs
-past_end c = let start : tie.Start = search in rw (le-ltb _ _ c.if1.true, get_or-eq_default start.args.code.now 0 c.if1.true)
+past_end c = let start : tie.Start = search in rw (le-ltb _ _ c.if-code-pc.true, get_or-eq_default start.args.code.now 0 c.if-code-pc.true)
 
-in_code : tie.Need-returns-2
+in_code : tie.Need-returns
 unfolding fetch after
 in_code c =
-    let within : tie.Else1 = search in
-    let read : tie.After-instr-at = search in
-    rw (lt-ltb _ _ within.if1.left, read.instr-at.ensures, c.type_size.ensures)
+    let within : tie.Else-code-pc = search in
+    let read : tie.After-instr_at = search in
+    rw (lt-ltb _ _ within.if-code-pc.false, read.instr_at.ensures, c.size_of.ensures)
 
 pub decode_spec : {M : Type 1} → statement M
 decode_spec =
@@ -29,5 +29,5 @@ decode_spec =
     (search rules)
     (search rules)
     (search rules)
-    (λ c. let h : c.type_size.result ≤ 20 = rw c.type_size.ensures (size_short _) in omega arith)
+    (λ c. let h : c.size_of.result ≤ 20 = rw c.size_of.ensures (size_short _) in omega arith)
     in_code)

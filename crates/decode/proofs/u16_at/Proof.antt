@@ -6,7 +6,7 @@ use Rattle.decode.proofs.u16_at.Tie as tie
 
 returns : tie.Need-returns
 unfolding u16
-returns c = let low : tie.After-byte-at = search in rw (c.byte-at2.ensures, low.byte_at.ensures)
+returns c = let low : tie.After-byte_at-low = search in rw (c.byte_at-high.ensures, low.byte_at-low.ensures)
 
 pub u16_at_spec : {M : Type 1} → statement M
 u16_at_spec =

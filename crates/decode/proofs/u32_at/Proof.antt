@@ -6,7 +6,7 @@ use Rattle.decode.proofs.u32_at.Tie as tie
 
 returns : tie.Need-returns
 unfolding u32
-returns c = let low : tie.After-u16-at = search in rw (c.u16-at2.ensures, low.u16-at.ensures)
+returns c = let low : tie.After-u16_at-low = search in rw (c.u16_at-high.ensures, low.u16_at-low.ensures)
 
 pub u32_at_spec : {M : Type 1} → statement M
 u32_at_spec =
