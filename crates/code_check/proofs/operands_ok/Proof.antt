@@ -43,19 +43,19 @@ module _ (b : tie.Start) where
   read : {r : Bool} (t : ℕ) → r ≡ get_or marks t false → t ≡ target → r ≡ get_or marks target false
   read t says e = says ∙ ap (λ (x : ℕ). get_or marks x false) e
 
-jump_marked : tie.Need-returns-4
+jump_marked : tie.Need-returns-in-10
 unfolding instrs operands_ok
 jump_marked c = let b : tie.Start = search in marked b 10 (search) (λ is. refl) (search (read b))
 
-ifz_marked : tie.Need-returns-5
+ifz_marked : tie.Need-returns-in-11
 unfolding instrs operands_ok
 ifz_marked c = let b : tie.Start = search in marked b 11 (search) (λ is. refl) (search (read b))
 
-block_marked : tie.Need-returns-6
+block_marked : tie.Need-returns-in-25
 unfolding instrs operands_ok
 block_marked c = let b : tie.Start = search in marked b 25 (search) (λ is. refl) (search (read b))
 
-try_marked : tie.Need-returns-7
+try_marked : tie.Need-returns-in-26
 unfolding instrs operands_ok
 try_marked c = let b : tie.Start = search in marked b 26 (search) (λ is. refl) (search (read b))
 
@@ -77,11 +77,11 @@ operands_ok_spec =
     (λ c κs. search rules)
     (λ c κs. search rules)
     (λ c. arm (search) 2 (search) (λ is. rw c.index_at.ensures))
-    (λ c. arm (search) 3 (search) (λ is. rw c.index-at2.ensures))
-    (λ c. arm (search) 4 (search) (λ is. rw c.index-at3.ensures))
+    (λ c. arm (search) 3 (search) (λ is. rw c.index_at-in-3.ensures))
+    (λ c. arm (search) 4 (search) (λ is. rw c.index_at-in-4.ensures))
     jump_marked
     ifz_marked
     block_marked
     try_marked
-    (λ c. arm (search) 29 (search) (λ is. rw c.index-at4.ensures))
-    (λ c. record { by = λ is m. free_else _ _ is _ _ _ c.match.rest }))
+    (λ c. arm (search) 29 (search) (λ is. rw c.index_at-in-29.ensures))
+    (λ c. record { by = λ is m. free_else _ _ is _ _ _ c.in_default.in_default-own.rest }))
