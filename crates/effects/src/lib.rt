@@ -15,6 +15,7 @@ use operands::{Both, By, Decision, Effect, LabelTask, OnHandle, OnLabel, Origin}
 // ---- the checks. A fault's number is worked out once a check has failed, so that one that holds takes no longer.
 
 // 23 and 24, as the code of the fault; 0 is none.
+#[tactic(auto, unfolding(crate::specs::Decisions::target_of))]
 fn target(label: Label, clearance: Label, l: Label) -> u32
     ensures { result ≡ target_of label clearance l }
 {
@@ -28,6 +29,7 @@ fn target(label: Label, clearance: Label, l: Label) -> u32
 }
 
 // The number of 23 or 24: the answer of the first failing of the two tests; 0 where both hold.
+#[tactic(auto, unfolding(crate::specs::Decisions::first_failing))]
 fn first_failing(label: Label, clearance: Label, l: Label) -> u32
     ensures { result ≡ first_failing label clearance l }
 {
@@ -328,6 +330,7 @@ pub fn keep(kind: Kind, l: Label, d: Datum, p: usize, store: &mut [u64])
 }
 
 // The contents of a block's outcome: 31 if the body's last label doesn't flow to the bound, however it ended.
+#[tactic(auto, unfolding(model::specs::Effects::contents_of))]
 fn outcome(label: Label, e: Ending, b: Label) -> Contents
     ensures { result ≡ sealed_of label e b }
 {
