@@ -37,57 +37,57 @@ unfolding job_ok
 start s = record { is = refl }
 
 -- `search` does not reach further back from the last places
-abbrev begun : tie.Else4 → tie.Start
+abbrev begun : tie.Else-job-ne0 → tie.Start
 begun c = search
 
-caller_fits : (c : tie.Else1) → Behind 1 (search)
-caller_fits c = pass (le-leb _ _ c.if1.false) (start (search))
+caller_fits : (c : tie.Else-job-gt15) → Behind 1 (search)
+caller_fits c = pass (le-leb _ _ c.if-job-gt15.false) (start (search))
 
-label_listed : (c : tie.Else2) → Behind 2 (search)
-label_listed c = pass (lt-ltb _ _ c.if2.false) (caller_fits (search))
+label_listed : (c : tie.Else-labels-job) → Behind 2 (search)
+label_listed c = pass (lt-ltb _ _ c.if-labels-job.false) (caller_fits (search))
 
-clearance_listed : (c : tie.Else3) → Behind 3 (search)
-clearance_listed c = pass (lt-ltb _ _ c.if3.false) (label_listed (search))
+clearance_listed : (c : tie.Else-labels-job-2) → Behind 3 (search)
+clearance_listed c = pass (lt-ltb _ _ c.if-labels-job-2.false) (label_listed (search))
 
-zero_is_0 : (c : tie.Else4) → Behind 4 (search)
-zero_is_0 c = pass (eq-eqb _ _ c.if4.false) (clearance_listed (search))
+zero_is_0 : (c : tie.Else-job-ne0) → Behind 4 (search)
+zero_is_0 c = pass (eq-eqb _ _ c.if-job-ne0.false) (clearance_listed (search))
 
-some_steps : (c : tie.Else5) → Behind 5 (begun (search))
-some_steps c = pass (le-leb _ _ c.if5.false) (zero_is_0 (search))
+some_steps : (c : tie.Else-job-lt1) → Behind 5 (begun (search))
+some_steps c = pass (le-leb _ _ c.if-job-lt1.false) (zero_is_0 (search))
 
-places_reach : (c : tie.Else6) → Behind 6 (begun (search))
-places_reach c = pass (le-leb _ _ c.if6.false) (some_steps (search))
+places_reach : (c : tie.Else-job-records) → Behind 6 (begun (search))
+places_reach c = pass (le-leb _ _ c.if-job-records.false) (some_steps (search))
 
-places_fit : (c : tie.Else7) → Behind 7 (begun (search))
-places_fit c = pass (le-leb _ _ c.if7.false) (places_reach (search))
+places_fit : (c : tie.Else-job-gt256) → Behind 7 (begun (search))
+places_fit c = pass (le-leb _ _ c.if-job-gt256.false) (places_reach (search))
 
-some_code : (c : tie.Else8) → Behind 8 (begun (search))
-some_code c = pass (le-leb _ _ c.if8.false) (places_fit (search))
+some_code : (c : tie.Else-job-lt1-2) → Behind 8 (begun (search))
+some_code c = pass (le-leb _ _ c.if-job-lt1-2.false) (places_fit (search))
 
-span_inside : (c : tie.Else9) → Behind 9 (begun (search))
-span_inside c = pass (le-leb _ _ c.if9.false) (some_code (search))
+span_inside : (c : tie.Else-code-job) → Behind 9 (begun (search))
+span_inside c = pass (le-leb _ _ c.if-code-job.false) (some_code (search))
 
-flow_decides : tie.Need-returns-10
+flow_decides : tie.Need-returns
 flow_decides c =
     let f : tie.After-flows = search in
-    let clearance : tie.After-label-at2 = search in
-    let label : tie.After-label-at = search in
-    f.flows.ensures ∙ ap₂ flows label.label_at.ensures clearance.label-at2.ensures ∙ last (span_inside (search))
+    let clearance : tie.After-label_at-2 = search in
+    let label : tie.After-label_at = search in
+    f.flows.ensures ∙ ap₂ flows label.label_at.ensures clearance.label_at-2.ensures ∙ last (span_inside (search))
 
 pub job_ok_spec : {M : Type 1} → statement M
 job_ok_spec =
     tie.close
     (tie.spec
-    (λ c. fail (lt-leb _ _ c.if1.true) (start (search)))
-    (λ c. fail (le-ltb _ _ c.if2.true) (caller_fits (search)))
-    (λ c. fail (le-ltb _ _ c.if3.true) (label_listed (search)))
-    (λ c. fail (ne_eqb _ _ c.if4.true) (clearance_listed (search)))
-    (λ c. fail (lt-leb _ _ c.if5.true) (zero_is_0 (search)))
-    (λ c. fail (lt-leb _ _ c.if6.true) (some_steps (search)))
-    (λ c. fail (lt-leb _ _ c.if7.true) (places_reach (search)))
-    (λ c. fail (lt-leb _ _ c.if8.true) (places_fit (search)))
-    (λ c. let s = begun (search) in omega (arith, s.pre.1, s.pre.2))
-    (λ c. fail (lt-leb _ _ c.if9.true) (some_code (search)))
+    (λ c. fail (lt-leb _ _ c.if-job-gt15.true) (start (search)))
+    (λ c. fail (le-ltb _ _ c.if-labels-job.true) (caller_fits (search)))
+    (λ c. fail (le-ltb _ _ c.if-labels-job-2.true) (label_listed (search)))
+    (λ c. fail (ne_eqb _ _ c.if-job-ne0.true) (clearance_listed (search)))
+    (λ c. fail (lt-leb _ _ c.if-job-lt1.true) (zero_is_0 (search)))
+    (λ c. fail (lt-leb _ _ c.if-job-records.true) (some_steps (search)))
+    (λ c. fail (lt-leb _ _ c.if-job-gt256.true) (places_reach (search)))
+    (λ c. fail (lt-leb _ _ c.if-job-lt1-2.true) (places_fit (search)))
+    (λ c. let s = begun (search) in omega (arith, s.requires.1, s.requires.2))
+    (λ c. fail (lt-leb _ _ c.if-code-job.true) (some_code (search)))
     (λ c κs. (begun (search)).requires.0)
     (λ c κs. (begun (search)).requires.0)
     (λ c κs. search rules)

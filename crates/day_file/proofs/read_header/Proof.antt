@@ -7,16 +7,16 @@ use Rattle.day_file.proofs.read_header.Tie as tie
 returns : tie.Need-returns
 unfolding day_header
 returns c =
-    let steps : tie.After-u32-at = search in
-    let code : tie.After-section-at4 = search in
-    let jobs : tie.After-section-at3 = search in
-    let records : tie.After-section-at2 = search in
-    let labels : tie.After-section-at = search in (
-      rw (labels.section-at.ensures.0, records.section-at2.ensures.0, jobs.section-at3.ensures.0, code.section-at4.ensures.0, steps.u32-at.ensures),
+    let steps : tie.After-u32_at = search in
+    let code : tie.After-section_at-4 = search in
+    let jobs : tie.After-section_at-3 = search in
+    let records : tie.After-section_at-2 = search in
+    let labels : tie.After-section_at = search in (
+      rw (labels.section_at.ensures.0, records.section_at-2.ensures.0, jobs.section_at-3.ensures.0, code.section_at-4.ensures.0, steps.u32_at.ensures),
       record {
-        records = records.section-at2.ensures.1;
-        jobs = jobs.section-at3.ensures.1;
-        code = code.section-at4.ensures.1;
+        records = records.section_at-2.ensures.1;
+        jobs = jobs.section_at-3.ensures.1;
+        code = code.section_at-4.ensures.1;
         steps = search rules;
       },
     )
