@@ -25,7 +25,7 @@ use Rattle.model.proofs.Tests.{cond_one}
 use Rattle.model.proofs.Plans.{number_of, label_of, handle_of, sealed_of, reference_of}
 use Rattle.model.proofs.Costs.{Cost, costs, target_ok, cost, plan_cost, next_cost}
 use Rattle.formulas.specs.Lists.{among}
-use Rattle.quote.specs.Quoting.{Node, goes_on, node}
+use Rattle.quote.specs.Quoting.{Node, goes_on, makes_record, stops_path, node}
 use Rattle.quote.proofs.Largest.{among_first, among_later}
 
 -- ── what a request costs at most ──
@@ -119,40 +119,40 @@ module _ (P : Program) (a : Account) (i : ℕ) where
 
     operate_follows : (x : Instr) → Follows x
     unfolding operate node drop_frame
-    operate_follows End e = any _ c _ (λ d s. (g, (omega arith, omega arith), tt))
+    operate_follows End e = any stops_path c _ (λ d s. (g, (omega arith, omega arith), tt))
     operate_follows (Push n) e = on
     operate_follows (Lab l) e = on
     operate_follows (Get l) e = on
-    operate_follows (Set l) e = any _ c _ (λ d s. on)
-    operate_follows Pop e = any _ c _ (λ d s. on)
-    operate_follows Add e = one_number _ c _ (λ y s. one_number _ (with_stack s c) _ (λ x t. on))
-    operate_follows Sub e = one_number _ c _ (λ y s. one_number _ (with_stack s c) _ (λ x t. on))
-    operate_follows Less e = one_number _ c _ (λ y s. one_number _ (with_stack s c) _ (λ x t. on))
-    operate_follows Same e = one_number _ c _ (λ y s. one_number _ (with_stack s c) _ (λ x t. on))
+    operate_follows (Set l) e = any (goes_on c.pc) c _ (λ d s. on)
+    operate_follows Pop e = any (goes_on c.pc) c _ (λ d s. on)
+    operate_follows Add e = one_number (goes_on c.pc) c _ (λ y s. one_number (goes_on c.pc) (with_stack s c) _ (λ x t. on))
+    operate_follows Sub e = one_number (goes_on c.pc) c _ (λ y s. one_number (goes_on c.pc) (with_stack s c) _ (λ x t. on))
+    operate_follows Less e = one_number (goes_on c.pc) c _ (λ y s. one_number (goes_on c.pc) (with_stack s c) _ (λ x t. on))
+    operate_follows Same e = one_number (goes_on c.pc) c _ (λ y s. one_number (goes_on c.pc) (with_stack s c) _ (λ x t. on))
     operate_follows (Jump t) e = (g, (omega arith, omega arith), among_first t [])
     operate_follows (Ifz t) e =
-        one_number _ c _
+        one_number (node i c.pc (Ifz t)) c _
         (λ n s. cond_one (λ (r : Control). PlanFollows (node i c.pc (Ifz t)) (asks r none)) (eqb n 0)
         (λ _. (g, (omega arith, omega arith), among_first t (c.pc ∷ [])))
         (λ _. (g, (omega arith, omega arith), among_later c.pc t (c.pc ∷ []) (here []))))
     operate_follows Cur e = on
     operate_follows Clr e = on
-    operate_follows Raise e = one_label _ c _ (λ l s. on)
-    operate_follows Lower e = one_label _ c _ (λ l s. on)
-    operate_follows Flows e = one_label _ c _ (λ m s. one_label _ (with_stack s c) _ (λ l t. on))
-    operate_follows Join e = one_label _ c _ (λ m s. one_label _ (with_stack s c) _ (λ l t. on))
-    operate_follows Meet e = one_label _ c _ (λ m s. one_label _ (with_stack s c) _ (λ l t. on))
-    operate_follows Seal e = one_label _ c _ (λ l s. any _ (with_stack s c) _ (λ d t. (g, (omega arith, omega arith), here [])))
-    operate_follows Open e = any _ c _ (λ d s. sealed_of (PlanFollows (goes_on c.pc)) (λ _. tt) d _ (λ _ p _. on))
-    operate_follows Labof e = any _ c _ (λ d s. handle_of (PlanFollows (goes_on c.pc)) (λ _. tt) d _ (λ _ p _. on))
-    operate_follows New e = one_label _ c _ (λ l s. any _ (with_stack s c) _ (λ d t. (g, (omega arith, omega arith), here [])))
-    operate_follows Read e = any _ c _ (λ d s. reference_of (PlanFollows (goes_on c.pc)) (λ _. tt) d _ (λ _ p _. on))
+    operate_follows Raise e = one_label (goes_on c.pc) c _ (λ l s. on)
+    operate_follows Lower e = one_label (goes_on c.pc) c _ (λ l s. on)
+    operate_follows Flows e = one_label (goes_on c.pc) c _ (λ m s. one_label (goes_on c.pc) (with_stack s c) _ (λ l t. on))
+    operate_follows Join e = one_label (goes_on c.pc) c _ (λ m s. one_label (goes_on c.pc) (with_stack s c) _ (λ l t. on))
+    operate_follows Meet e = one_label (goes_on c.pc) c _ (λ m s. one_label (goes_on c.pc) (with_stack s c) _ (λ l t. on))
+    operate_follows Seal e = one_label (makes_record c.pc) c _ (λ l s. any (makes_record c.pc) (with_stack s c) _ (λ d t. (g, (omega arith, omega arith), here [])))
+    operate_follows Open e = any (goes_on c.pc) c _ (λ d s. sealed_of (PlanFollows (goes_on c.pc)) (λ _. tt) d _ (λ _ p _. on))
+    operate_follows Labof e = any (goes_on c.pc) c _ (λ d s. handle_of (PlanFollows (goes_on c.pc)) (λ _. tt) d _ (λ _ p _. on))
+    operate_follows New e = one_label (makes_record c.pc) c _ (λ l s. any (makes_record c.pc) (with_stack s c) _ (λ d t. (g, (omega arith, omega arith), here [])))
+    operate_follows Read e = any (goes_on c.pc) c _ (λ d s. reference_of (PlanFollows (goes_on c.pc)) (λ _. tt) d _ (λ _ p _. on))
     operate_follows Write e =
-        any _ c _ (λ h s. any _ (with_stack s c) _ (λ d t. reference_of (PlanFollows (goes_on c.pc)) (λ _. tt) h _ (λ _ p _. on)))
-    operate_follows (Block t n k) e = one_label _ c _ (λ l s. (g, (omega arith, omega arith), here []))
+        any (goes_on c.pc) c _ (λ h s. any (goes_on c.pc) (with_stack s c) _ (λ d t. reference_of (PlanFollows (goes_on c.pc)) (λ _. tt) h _ (λ _ p _. on)))
+    operate_follows (Block t n k) e = one_label (node i c.pc (Block t n k)) c _ (λ l s. (g, (omega arith, omega arith), here []))
     operate_follows (Try h) e = absurd (true≢false (sym e))
     operate_follows Done e = rw g tt
-    operate_follows Throw e = one_number _ c _ (λ n s. (g, (omega arith, omega arith), tt))
+    operate_follows Throw e = one_number stops_path c _ (λ n s. (g, (omega arith, omega arith), tt))
     operate_follows (Input n) e = on
 
     plan_follows : (x : Instr) → (node i c.pc x).ahead ≡ true → PlanFollows (node i c.pc x) (plan P a c x)
