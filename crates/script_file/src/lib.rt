@@ -41,6 +41,7 @@ pub enum Loaded {
 }
 
 // The number of the check that refuses.
+#[tactic(auto, unfolding(crate::specs::Loading::refusal_number))]
 pub fn number(r: Refusal) -> u64
     ensures { result ≡ refusal_number r }
 {

@@ -25,39 +25,39 @@ start : (s : tie.Start) → Behind 0 s
 unfolding counts_ok
 start s = record { is = refl }
 
-two_labels : (c : tie.Else1) → Behind 1 (search)
-two_labels c = pass (le-leb _ _ c.if1.false) (start (search))
+two_labels : (c : tie.Else-labels-lt2) → Behind 1 (search)
+two_labels c = pass (le-leb _ _ c.if-labels-lt2.false) (start (search))
 
-labels_fit : (c : tie.Else2) → Behind 2 (search)
-labels_fit c = pass (le-leb _ _ c.if2.false) (two_labels (search))
+labels_fit : (c : tie.Else-labels-gt32) → Behind 2 (search)
+labels_fit c = pass (le-leb _ _ c.if-labels-gt32.false) (two_labels (search))
 
-records_fit : (c : tie.Else3) → Behind 3 (search)
-records_fit c = pass (le-leb _ _ c.if3.false) (labels_fit (search))
+records_fit : (c : tie.Else-records-gt64) → Behind 3 (search)
+records_fit c = pass (le-leb _ _ c.if-records-gt64.false) (labels_fit (search))
 
-some_code : (c : tie.Else4) → Behind 4 (search)
-some_code c = pass (le-leb _ _ c.if4.false) (records_fit (search))
+some_code : (c : tie.Else-code-lt1) → Behind 4 (search)
+some_code c = pass (le-leb _ _ c.if-code-lt1.false) (records_fit (search))
 
-code_fits : (c : tie.Else5) → Behind 5 (search)
-code_fits c = pass (le-leb _ _ c.if5.false) (some_code (search))
+code_fits : (c : tie.Else-code-gt4096) → Behind 5 (search)
+code_fits c = pass (le-leb _ _ c.if-code-gt4096.false) (some_code (search))
 
-some_steps : (c : tie.Else6) → Behind 6 (search)
-some_steps c = pass (le-leb _ _ c.if6.false) (code_fits (search))
+some_steps : (c : tie.Else-h-lt1) → Behind 6 (search)
+some_steps c = pass (le-leb _ _ c.if-h-lt1.false) (code_fits (search))
 
-places_reach : (c : tie.Else7) → Behind 7 (search)
-places_reach c = pass (le-leb _ _ c.if7.false) (some_steps (search))
+places_reach : (c : tie.Else-h-records) → Behind 7 (search)
+places_reach c = pass (le-leb _ _ c.if-h-records.false) (some_steps (search))
 
-most_places_decide : tie.Need-returns-8
+most_places_decide : tie.Need-returns
 most_places_decide c = last (places_reach (search))
 
 pub counts_ok_spec : {M : Type 1} → statement M
 counts_ok_spec =
     tie.close
     (tie.spec
-    (λ c. fail (lt-leb _ _ c.if1.true) (start (search)))
-    (λ c. fail (lt-leb _ _ c.if2.true) (two_labels (search)))
-    (λ c. fail (lt-leb _ _ c.if3.true) (labels_fit (search)))
-    (λ c. fail (lt-leb _ _ c.if4.true) (records_fit (search)))
-    (λ c. fail (lt-leb _ _ c.if5.true) (some_code (search)))
-    (λ c. fail (lt-leb _ _ c.if6.true) (code_fits (search)))
-    (λ c. fail (lt-leb _ _ c.if7.true) (some_steps (search)))
+    (λ c. fail (lt-leb _ _ c.if-labels-lt2.true) (start (search)))
+    (λ c. fail (lt-leb _ _ c.if-labels-gt32.true) (two_labels (search)))
+    (λ c. fail (lt-leb _ _ c.if-records-gt64.true) (labels_fit (search)))
+    (λ c. fail (lt-leb _ _ c.if-code-lt1.true) (records_fit (search)))
+    (λ c. fail (lt-leb _ _ c.if-code-gt4096.true) (some_code (search)))
+    (λ c. fail (lt-leb _ _ c.if-h-lt1.true) (code_fits (search)))
+    (λ c. fail (lt-leb _ _ c.if-h-records.true) (some_steps (search)))
     most_places_decide)

@@ -34,10 +34,10 @@ start bs = record { to = refl }
 
 -- ── the header, and what each check finds ──
 
-check1 : (a : tie.After-size-ok) → passes1 (bytes (search)) ≡ a.Size-ok.result
-check1 a = finds1 (bytes (search)) (sym a.Size-ok.ensures)
+check1 : (a : tie.After-size_ok) → passes1 (bytes (search)) ≡ a.size_ok.result
+check1 a = finds1 (bytes (search)) (sym a.size_ok.ensures)
 
-module _ (h : tie.After-read-header) where
+module _ (h : tie.After-read_header-h) where
   abbrev begun : tie.Start
   begun = search
 
@@ -48,111 +48,111 @@ module _ (h : tie.After-read-header) where
   ws = begun.args.labels.now
 
   abbrev head : Header
-  head = h.read-header.result
+  head = h.read_header-h.result
 
   is_head : head ≡ header bs
-  is_head = h.read-header.ensures.0
+  is_head = h.read_header-h.ensures.0
 
   passed1 : Behind 1 bs
-  passed1 = let e : tie.Else1 = search in past (check1 (search) ∙ not-false _ e.if1.left) (start bs)
+  passed1 = let e : tie.Else-not-size_ok = search in past (check1 (search) ∙ e.if-not-size_ok.false) (start bs)
 
-check2 : (a : tie.After-counts-ok) → passes2 (bs (search)) ≡ a.counts-ok.result
-check2 a = let h : tie.After-read-header = search in finds2 (bs h) (head h) (is_head h) (sym a.counts-ok.ensures)
+check2 : (a : tie.After-counts_ok) → passes2 (bs (search)) ≡ a.counts_ok.result
+check2 a = let h : tie.After-read_header-h = search in finds2 (bs h) (head h) (is_head h) (sym a.counts_ok.ensures)
 
-passed2 : (e : tie.Else2) → Behind 2 (bs (search))
-passed2 e = past (check2 (search) ∙ not-false _ e.if2.false) (passed1 (search))
+passed2 : (e : tie.Else-not-counts_ok) → Behind 2 (bs (search))
+passed2 e = past (check2 (search) ∙ e.if-not-counts_ok.false) (passed1 (search))
 
-counts : (e : tie.Else2) → Counted (head (search))
-counts e = let a : tie.After-counts-ok = search in counted _ (sym a.counts-ok.ensures ∙ not-false _ e.if2.false)
+counts : (e : tie.Else-not-counts_ok) → Counted (head (search))
+counts e = let a : tie.After-counts_ok = search in counted _ (sym a.counts_ok.ensures ∙ e.if-not-counts_ok.false)
 
-check3 : (a : tie.After-offsets-ok) → passes3 (bs (search)) ≡ a.offsets-ok.result
-check3 a = let h : tie.After-read-header = search in finds3 (bs h) (head h) (is_head h) (sym a.offsets-ok.ensures)
+check3 : (a : tie.After-offsets_ok) → passes3 (bs (search)) ≡ a.offsets_ok.result
+check3 a = let h : tie.After-read_header-h = search in finds3 (bs h) (head h) (is_head h) (sym a.offsets_ok.ensures)
 
-passed3 : (e : tie.Else3) → Behind 3 (bs (search))
-passed3 e = past (check3 (search) ∙ not-false _ e.if3.false) (passed2 (search))
+passed3 : (e : tie.Else-not-offsets_ok) → Behind 3 (bs (search))
+passed3 e = past (check3 (search) ∙ e.if-not-offsets_ok.false) (passed2 (search))
 
-placing : (e : tie.Else3) → Placed (head (search)) (length (bs (search)))
-placing e = let a : tie.After-offsets-ok = search in placed _ _ (sym a.offsets-ok.ensures ∙ not-false _ e.if3.false)
+placing : (e : tie.Else-not-offsets_ok) → Placed (head (search)) (length (bs (search)))
+placing e = let a : tie.After-offsets_ok = search in placed _ _ (sym a.offsets_ok.ensures ∙ e.if-not-offsets_ok.false)
 
-table : (l : tie.After-read-labels) → l.read-labels.result ≡ labels_found (file_labels (bs (search)))
-table l = let h : tie.After-read-header = search in file_table (bs h) (head h) (is_head h) _ l.read-labels.ensures
+table : (l : tie.After-read_labels-table) → l.read_labels-table.result ≡ labels_found (file_labels (bs (search)))
+table l = let h : tie.After-read_header-h = search in file_table (bs h) (head h) (is_head h) _ l.read_labels-table.ensures
 
-check4 : (l : tie.After-read-labels) → passes4 (bs (search)) ≡ l.read-labels.result.whole
+check4 : (l : tie.After-read_labels-table) → passes4 (bs (search)) ≡ l.read_labels-table.result.whole
 check4 l = finds4 (bs (search)) _ (table l) refl
 
-passed4 : (e : tie.Else4) → Behind 4 (bs (search))
-passed4 e = past (check4 (search) ∙ not-false _ e.if4.false) (passed3 (search))
+passed4 : (e : tie.Else-not-table) → Behind 4 (bs (search))
+passed4 e = past (check4 (search) ∙ not-false _ e.if-not-table.false) (passed3 (search))
 
-check5 : (a : tie.After-start-ok) → passes5 (bs (search)) ≡ a.start_ok.result
-check5 a = let l : tie.After-read-labels = search in finds5 (bs (search)) _ (table l) (sym a.start_ok.ensures)
+check5 : (a : tie.After-start_ok) → passes5 (bs (search)) ≡ a.start_ok.result
+check5 a = let l : tie.After-read_labels-table = search in finds5 (bs (search)) _ (table l) (sym a.start_ok.ensures)
 
-passed5 : (e : tie.Else5) → Behind 5 (bs (search))
-passed5 e = past (check5 (search) ∙ not-false _ e.if5.false) (passed4 (search))
+passed5 : (e : tie.Else-not-start_ok) → Behind 5 (bs (search))
+passed5 e = past (check5 (search) ∙ e.if-not-start_ok.false) (passed4 (search))
 
-check6 : (a : tie.After-records-ok) → passes6 (bs (search)) ≡ a.records-ok.result
+check6 : (a : tie.After-records_ok) → passes6 (bs (search)) ≡ a.records_ok.result
 check6 a =
-    let h : tie.After-read-header = search in
-    finds6 (bs h) (head h) (is_head h) (placing (search)).code (sym a.records-ok.ensures)
+    let h : tie.After-read_header-h = search in
+    finds6 (bs h) (head h) (is_head h) (placing (search)).code (sym a.records_ok.ensures)
 
-passed6 : (e : tie.Else6) → Behind 6 (bs (search))
-passed6 e = past (check6 (search) ∙ not-false _ e.if6.false) (passed5 (search))
+passed6 : (e : tie.Else-not-records_ok) → Behind 6 (bs (search))
+passed6 e = past (check6 (search) ∙ e.if-not-records_ok.false) (passed5 (search))
 
-check7 : (a : tie.After-code-ok) → passes7 (bs (search)) ≡ a.code_ok.result
-check7 a = let h : tie.After-read-header = search in finds7 (bs h) (head h) (is_head h) (sym a.code_ok.ensures)
+check7 : (a : tie.After-code_ok) → passes7 (bs (search)) ≡ a.code_ok.result
+check7 a = let h : tie.After-read_header-h = search in finds7 (bs h) (head h) (is_head h) (sym a.code_ok.ensures)
 
 -- ── the answers ──
 
-size_refused : tie.Need-returns
+size_refused : tie.Need-returns-then-not-size_ok
 size_refused c =
     let b : tie.Start = search in
-    refuses (bytes b) b.args.labels.now 0 (stopped (check1 (search) ∙ not-true _ c.if1.true) (start (bytes b)))
+    refuses (bytes b) b.args.labels.now 0 (stopped (check1 (search) ∙ c.if-not-size_ok.true) (start (bytes b)))
 
-counts_refused : tie.Need-returns-2
-counts_refused c = let h : tie.After-read-header = search in refuses (bs h) (ws h) 1 (stopped (check2 (search) ∙ not-true _ c.if2.true) (passed1 h))
+counts_refused : tie.Need-returns-then-not-counts_ok
+counts_refused c = let h : tie.After-read_header-h = search in refuses (bs h) (ws h) 1 (stopped (check2 (search) ∙ c.if-not-counts_ok.true) (passed1 h))
 
-offsets-ok-requires : tie.Need-offsets-ok-requires
-offsets-ok-requires c κs = let h : tie.After-read-header = search in h.read-header.ensures.1
+offsets_ok-requires : tie.Need-offsets_ok-requires
+offsets_ok-requires c κs = let h : tie.After-read_header-h = search in h.read_header-h.ensures.1
 
-offsets_refused : tie.Need-returns-3
-offsets_refused c = let h : tie.After-read-header = search in refuses (bs h) (ws h) 2 (stopped (check3 (search) ∙ not-true _ c.if3.true) (passed2 (search)))
+offsets_refused : tie.Need-returns-then-not-offsets_ok
+offsets_refused c = let h : tie.After-read_header-h = search in refuses (bs h) (ws h) 2 (stopped (check3 (search) ∙ c.if-not-offsets_ok.true) (passed2 (search)))
 
-part_read_labels_end : tie.Need-slice-bounds-read-labels-end
+part_read_labels_end : tie.Need-slice_bounds-read_labels-end
 part_read_labels_end c = let z = placing (search) in omega arith
 
-read-labels-requires : tie.Need-read-labels-requires
-read-labels-requires c κs = (counts (search)).labels
+read_labels-requires : tie.Need-read_labels-table-requires
+read_labels-requires c κs = (counts (search)).labels
 
-labels_refused : tie.Need-returns-4
-labels_refused c = let h : tie.After-read-header = search in refuses (bs h) (ws h) 3 (stopped (check4 (search) ∙ not-true _ c.if4.true) (passed3 (search)))
+labels_refused : tie.Need-returns-then-not-table
+labels_refused c = let h : tie.After-read_header-h = search in refuses (bs h) (ws h) 3 (stopped (check4 (search) ∙ not-true _ c.if-not-table.true) (passed3 (search)))
 
-start-ok-requires : tie.Need-start-ok-requires
-start-ok-requires c κs = let l : tie.After-read-labels = search in length_found (file_labels (bs (search))) _ (table l)
+start_ok-requires : tie.Need-start_ok-requires
+start_ok-requires c κs = let l : tie.After-read_labels-table = search in length_found (file_labels (bs (search))) _ (table l)
 
-start_refused : tie.Need-returns-5
-start_refused c = let h : tie.After-read-header = search in refuses (bs h) (ws h) 4 (stopped (check5 (search) ∙ not-true _ c.if5.true) (passed4 (search)))
+start_refused : tie.Need-returns-then-not-start_ok
+start_refused c = let h : tie.After-read_header-h = search in refuses (bs h) (ws h) 4 (stopped (check5 (search) ∙ c.if-not-start_ok.true) (passed4 (search)))
 
-records-ok-requires : tie.Need-records-ok-requires
-records-ok-requires c κs = (counts (search)).records
+records_ok-requires : tie.Need-records_ok-requires
+records_ok-requires c κs = (counts (search)).records
 
-records_refused : tie.Need-returns-6
-records_refused c = let h : tie.After-read-header = search in refuses (bs h) (ws h) 5 (stopped (check6 (search) ∙ not-true _ c.if6.true) (passed5 (search)))
+records_refused : tie.Need-returns-then-not-records_ok
+records_refused c = let h : tie.After-read_header-h = search in refuses (bs h) (ws h) 5 (stopped (check6 (search) ∙ c.if-not-records_ok.true) (passed5 (search)))
 
-code-ok-requires : tie.Need-code-ok-requires
-code-ok-requires c κs =
-    let e : tie.Else3 = search in
-    let h : tie.After-read-header = search in
+code_ok-requires : tie.Need-code_ok-requires
+code_ok-requires c κs =
+    let e : tie.Else-not-offsets_ok = search in
+    let h : tie.After-read_header-h = search in
     let n = counts (search) in
     let z = placing e in
     let part = ap length (part_to_end (bs h) (head h).code.offset) ∙ length-drop (head h).code.offset (bs h) in
     omega (arith, n.code, z.code, z.whole, part)
 
-code_refused : tie.Need-returns-7
-code_refused c = let h : tie.After-read-header = search in refuses (bs h) (ws h) 6 (stopped (check7 (search) ∙ not-true _ c.if7.true) (passed6 (search)))
+code_refused : tie.Need-returns-then-not-code_ok
+code_refused c = let h : tie.After-read_header-h = search in refuses (bs h) (ws h) 6 (stopped (check7 (search) ∙ c.if-not-code_ok.true) (passed6 (search)))
 
-file_loaded : tie.Need-returns-8
+file_loaded : tie.Need-returns
 file_loaded c =
-    let h : tie.After-read-header = search in
-    let q = loads (bs h) (ws h) (sym (past (check7 (search) ∙ not-false _ c.if7.false) (passed6 (search))).to) in
+    let h : tie.After-read_header-h = search in
+    let q = loads (bs h) (ws h) (sym (past (check7 (search) ∙ c.if-not-code_ok.false) (passed6 (search))).to) in
     (ap File (is_head h) ∙ q.0, ap (λ (t : FileLabels). t.words) (table (search)) ∙ q.1)
 
 pub load_spec : {M : Type 1} → statement M
@@ -164,24 +164,24 @@ load_spec =
     (search rules)
     (search rules)
     counts_refused
-    offsets-ok-requires
+    offsets_ok-requires
     offsets_refused
     (λ c. (placing (search)).records)
     (λ c. (placing (search)).records)
     part_read_labels_end
-    read-labels-requires
+    read_labels-requires
     labels_refused
     (λ c. search rules)
-    start-ok-requires
+    start_ok-requires
     start_refused
     (λ c. let z = placing (search) in omega arith)
     (λ c. let z = placing (search) in omega arith)
     (λ c. let z = placing (search) in omega arith)
-    records-ok-requires
+    records_ok-requires
     records_refused
     (λ c. let z = placing (search) in omega arith)
     (λ c. let z = placing (search) in omega arith)
     (search rules)
-    code-ok-requires
+    code_ok-requires
     code_refused
     file_loaded)

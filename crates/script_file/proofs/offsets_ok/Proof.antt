@@ -26,26 +26,26 @@ start : (s : tie.Start) → Behind 0 s
 unfolding offsets_ok
 start s = record { is = refl }
 
-labels_placed : (c : tie.Else1) → Behind 1 (search)
-labels_placed c = pass (eq-eqb _ _ c.if1.false) (start (search))
+labels_placed : (c : tie.Else-labels-ne16) → Behind 1 (search)
+labels_placed c = pass (eq-eqb _ _ c.if-labels-ne16.false) (start (search))
 
-records_placed : (c : tie.Else2) → Behind 2 (search)
-records_placed c = pass (le-leb _ _ c.if2.false) (labels_placed (search))
+records_placed : (c : tie.Else-records-lt16) → Behind 2 (search)
+records_placed c = pass (le-leb _ _ c.if-records-lt16.false) (labels_placed (search))
 
-code_placed : (c : tie.Else3) → Behind 3 (search)
-code_placed c = pass (eq-eqb _ _ c.if3.false) (records_placed (search))
+code_placed : (c : tie.Else-code-records) → Behind 3 (search)
+code_placed c = pass (eq-eqb _ _ c.if-code-records.false) (records_placed (search))
 
-length_decides : tie.Need-returns-4
+length_decides : tie.Need-returns
 length_decides c = last (code_placed (search))
 
 pub offsets_ok_spec : {M : Type 1} → statement M
 offsets_ok_spec =
     tie.close
     (tie.spec
-    (λ c. fail (ne_eqb _ _ c.if1.true) (start (search)))
-    (λ c. fail (lt-leb _ _ c.if2.true) (labels_placed (search)))
+    (λ c. fail (ne_eqb _ _ c.if-labels-ne16.true) (start (search)))
+    (λ c. fail (lt-leb _ _ c.if-records-lt16.true) (labels_placed (search)))
     (search rules)
     (search rules)
-    (λ c. fail (ne_eqb _ _ c.if3.true) (records_placed (search)))
+    (λ c. fail (ne_eqb _ _ c.if-code-records.true) (records_placed (search)))
     (search rules)
     length_decides)

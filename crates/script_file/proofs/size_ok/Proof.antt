@@ -6,13 +6,13 @@ use Rattle.file_sections.proofs.Tests.{pass, fail, last}
 use Rattle.script_file.proofs.size_ok.Statement.{statement}
 use Rattle.script_file.proofs.size_ok.Tie as tie
 
-too_short : tie.Need-returns
+too_short : tie.Need-returns-then-n-lt16
 unfolding size_ok
-too_short c = fail (lt-leb _ _ c.if1.true) (record { is = refl })
+too_short c = fail (lt-leb _ _ c.if-n-lt16.true) (record { is = refl })
 
-longest_decides : tie.Need-returns-2
+longest_decides : tie.Need-returns
 unfolding size_ok
-longest_decides c = last (pass (le-leb _ _ c.if1.false) (record { is = refl }))
+longest_decides c = last (pass (le-leb _ _ c.if-n-lt16.false) (record { is = refl }))
 
 pub size_ok_spec : {M : Type 1} → statement M
 size_ok_spec = tie.close (tie.spec too_short longest_decides)
