@@ -46,35 +46,35 @@ module _ (b : tie.Start) where
   room : 33998 ≤ length out → view_length R σ ≤ length out
   room h = omega (arith, view_most R b.args.store.now)
 
-long_buffer : tie.Need-returns
+long_buffer : tie.Need-returns-then-out-ge-LONGEST
 long_buffer c =
-    let w : tie.After-write-view = search in
-    let t : tie.Then1 = search in
+    let w : tie.After-write_view = search in
+    let t : tie.Then-out-ge-LONGEST = search in
     let b : tie.Start = search in
-    (w.write_view.ensures.0, w.write_view.ensures.1 ∙ fits b (room b t.if1.taken))
+    (w.write_view.ensures.0, w.write_view.ensures.1 ∙ fits b (room b t.if-out-ge-LONGEST.true))
 
-too_short : tie.Need-returns-2
+too_short : tie.Need-returns-then-out-n
 too_short c =
-    let n : tie.After-view-length = search in
+    let n : tie.After-view_length-n = search in
     let b : tie.Start = search in
-    (n.view-length.ensures, short b (omega (arith, n.view-length.ensures)))
+    (n.view_length-n.ensures, short b (omega (arith, n.view_length-n.ensures)))
 
-long_enough : tie.Need-returns-3
+long_enough : tie.Need-returns
 long_enough c =
-    let w : tie.After-write-view2 = search in
-    let n : tie.After-view-length = search in
+    let w : tie.After-write_view-2 = search in
+    let n : tie.After-view_length-n = search in
     let b : tie.Start = search in
-    (w.write-view2.ensures.0, w.write-view2.ensures.1 ∙ fits b (omega (arith, n.view-length.ensures)))
+    (w.write_view-2.ensures.0, w.write_view-2.ensures.1 ∙ fits b (omega (arith, n.view_length-n.ensures)))
 
 pub show_view_spec : {M : Type 1} → statement M
 show_view_spec =
     tie.close
     (tie.spec
-    (λ c κs. let t : tie.Then1 = search in let b : tie.Start = search in (b.pre, room b t.if1.taken))
+    (λ c κs. let t : tie.Then-out-ge-LONGEST = search in let b : tie.Start = search in (b.requires, room b t.if-out-ge-LONGEST.true))
     (search rules)
     long_buffer
     (search rules)
     too_short
-    (λ c κs. let n : tie.After-view-length = search in let b : tie.Start = search in (b.pre, omega (arith, n.view-length.ensures)))
+    (λ c κs. let n : tie.After-view_length-n = search in let b : tie.Start = search in (b.requires, omega (arith, n.view_length-n.ensures)))
     (search rules)
     long_enough)

@@ -8,7 +8,7 @@ use Rattle.view.proofs.view_length.Tie as tie
 
 returns : tie.Need-returns
 unfolding length_over
-returns c = ap (λ (k : ℕ). 206 + 132 * k) c.records-shown.ensures.1
+returns c = ap (λ (k : ℕ). 206 + 132 * k) c.records_shown.ensures.1
 
 pub view_length_spec : {M : Type 1} → statement M
 view_length_spec = tie.close (tie.spec (search rules) (search rules) (search rules) returns)

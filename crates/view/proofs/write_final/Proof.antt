@@ -10,31 +10,31 @@ use borrow.Author.Rules.{rules}
 use Rattle.view.proofs.write_final.Statement.{statement}
 use Rattle.view.proofs.write_final.Tie as tie
 
-end_written : tie.Need-returns
+end_written : tie.Need-returns-then-flows
 end_written c =
-    let third : tie.After-write-label2 = search in
-    let second : tie.After-write-label = search in
-    let first : tie.After-write-value = search in
-    let result : tie.After-of-ending = search in
-    let test : tie.Then1 = search in
+    let third : tie.After-write_label-then-flows = search in
+    let second : tie.After-write_label = search in
+    let first : tie.After-write_value = search in
+    let result : tie.After-of_ending = search in
+    let test : tie.Then-flows = search in
     let flow : tie.After-flows = search in
     let begun : tie.Start = search in
     let a = begun.args in
     let f = a.finish in
-    let r = result.of-ending.result in
+    let r = result.of_ending.result in
     three (triple_field r) (label_field principals f.label) (label_field principals f.clearance) a.out.now
-    (length_triple r) (length_label principals f.label) (length_label principals f.clearance) begun.pre
-    first.write-value.ensures second.write-label.ensures third.write-label2.ensures
-    ∙ final_written a.reader f a.out.now flow.flows.ensures test.if1.taken r result.of-ending.ensures
+    (length_triple r) (length_label principals f.label) (length_label principals f.clearance) begun.requires
+    first.write_value.ensures second.write_label.ensures third.write_label-then-flows.ensures
+    ∙ final_written a.reader f a.out.now flow.flows.ensures test.if-flows.true r result.of_ending.ensures
 
-zeros_written : tie.Need-returns-2
+zeros_written : tie.Need-returns-else-flows
 zeros_written c =
-    let written : tie.After-write-zeros = search in
-    let test : tie.Else1 = search in
+    let written : tie.After-write_zeros = search in
+    let test : tie.Else-flows = search in
     let flow : tie.After-flows = search in
     let begun : tie.Start = search in
     let a = begun.args in
-    written.write-zeros.ensures ∙ final_blank a.reader a.finish a.out.now flow.flows.ensures test.if1.left
+    written.write_zeros.ensures ∙ final_blank a.reader a.finish a.out.now flow.flows.ensures test.if-flows.false
 
 pub write_final_spec : {M : Type 1} → statement M
 write_final_spec =
