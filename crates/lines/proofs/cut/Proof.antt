@@ -7,7 +7,7 @@ use borrow.Author.Rules.{rules}
 use Rattle.lines.proofs.cut.Statement.{statement}
 use Rattle.lines.proofs.cut.Tie as tie
 
-all_there : tie.Need-returns-2
+all_there : tie.Need-returns
 all_there c =
     let begun : tie.Start = search in
     let bs = begun.args.bytes.now in

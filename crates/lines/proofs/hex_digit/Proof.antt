@@ -5,11 +5,11 @@ use borrow.Author.Rules.{rules}
 use Rattle.lines.proofs.hex_digit.Statement.{statement}
 use Rattle.lines.proofs.hex_digit.Tie as tie
 
-decimal : tie.Need-returns
-decimal c = rw (lt-ltb _ _ c.if1.true)
+decimal : tie.Need-returns-then-d-lt10
+decimal c = rw (lt-ltb _ _ c.if-d-lt10.true)
 
-letter : tie.Need-returns-2
-letter c = rw (le-ltb _ _ c.if1.false) (omega arith)
+letter : tie.Need-returns
+letter c = rw (le-ltb _ _ c.if-d-lt10.false) (omega arith)
 
 pub hex_digit_spec : {M : Type 1} → statement M
 hex_digit_spec = tie.close (tie.spec (search rules) decimal (search rules) letter)

@@ -7,8 +7,8 @@ use Rattle.lines.proofs.line_length.Tie as tie
 returns : tie.Need-returns
 returns c =
     let whole : tie.After-cut = search in
-    let shown : tie.After-records-in = search in
-    length_line _ shown.records-in.result whole.cut.result shown.records-in.ensures.1 whole.cut.ensures
+    let shown : tie.After-records_in-n = search in
+    length_line _ shown.records_in-n.result whole.cut.result shown.records_in-n.ensures.1 whole.cut.ensures
 
 pub line_length_spec : {M : Type 1} → statement M
 line_length_spec =

@@ -22,19 +22,19 @@ module _ (c : tie.Start) where
   w1 : Writing (0x20 ∷ hex field) (hex field) out (set out 0 0x20) 1
   w1 = byte (start refl) refl (omega (arith, c.requires))
 
-module _ (c : tie.After-write-hex) where
+module _ (c : tie.After-write_hex) where
   abbrev begun : tie.Start
   begun = search
 
   -- and the field
-  w2 : Writing (0x20 ∷ hex (field begun)) [] (out begun) (back 1 (set (out begun) 0 0x20) c.write-hex.new.1.0) (1 + 2 * length (field begun))
-  w2 = piece (w1 begun) (hex (field begun)) (sym (append-nil (hex (field begun)))) (length_hex (field begun)) begun.pre c.write-hex.ensures
+  w2 : Writing (0x20 ∷ hex (field begun)) [] (out begun) (back 1 (set (out begun) 0 0x20) c.write_hex.new.out) (1 + 2 * length (field begun))
+  w2 = piece (w1 begun) (hex (field begun)) (sym (append-nil (hex (field begun)))) (length_hex (field begun)) begun.requires c.write_hex.ensures
 
-write-hex-requires : tie.Need-write-hex-requires
-write-hex-requires c κs = let b : tie.Start = search in room_for (w1 b) (2 * length (field b)) (omega (arith, b.pre))
+write_hex-requires : tie.Need-write_hex-requires
+write_hex-requires c κs = let b : tie.Start = search in room_for (w1 b) (2 * length (field b)) (omega (arith, b.requires))
 
 returns : tie.Need-returns
-returns c = let h : tie.After-write-hex = search in ends (w2 h) refl
+returns c = let h : tie.After-write_hex = search in ends (w2 h) refl
 
 pub write_field_spec : {M : Type 1} → statement M
 write_field_spec =
@@ -44,6 +44,6 @@ write_field_spec =
     (λ c. simp length-set (omega arith))
     (λ c. simp length-set (omega arith))
     (search rules)
-    write-hex-requires
+    write_hex-requires
     (λ c. (w2 (search)).same)
     returns)

@@ -13,21 +13,21 @@ use Rattle.lines.proofs.write_fields.Statement.{statement}
 use Rattle.lines.proofs.write_fields.Tie as tie
 
 -- j fields are written; those of the other widths are left, of the bytes that are left
-abbrev invariant-loop : tie.invariant-loop
+abbrev invariant-loop : tie.invariant-loop-j
 invariant-loop widths bytes out₀ rest₀ at₀ j₀ out rest at j = (j ≤ length widths) × Writing (spaced widths bytes) (spaced (drop j widths) rest) out₀ out at
 
-abbrev decreases-loop : tie.decreases-loop
+abbrev decreases-loop : tie.decreases-loop-j
 decreases-loop widths bytes out₀ rest₀ at₀ j₀ out rest at j = length widths - j
 
 abbrev Start : Type 0
 Start = tie.Start invariant-loop decreases-loop
 
 abbrev Head : Type 0
-Head = tie.At-loop invariant-loop decreases-loop
+Head = tie.At-loop-j invariant-loop decreases-loop
 
 -- it is known how many bytes the next field has
 abbrev Known : Type 0
-Known = tie.After-cut invariant-loop decreases-loop
+Known = tie.After-cut-n invariant-loop decreases-loop
 
 module _ (c : Known) where
   abbrev top : Head
@@ -40,48 +40,48 @@ module _ (c : Known) where
   ws = begun.args.widths.now
 
   abbrev rest : List ℕ
-  rest = top.loop.rest.now
+  rest = top.loop-j.rest.now
 
   abbrev n : ℕ
-  n = c.cut.result
+  n = c.cut-n.result
 
   abbrev field : List ℕ
   field = 0x20 ∷ hex (take n rest)
 
   abbrev others : List ℕ
-  others = spaced (drop (top.loop.j + 1) ws) (part n rest)
+  others = spaced (drop (top.loop-j.j + 1) ws) (part n rest)
 
   within : n ≤ length rest
-  within = c.cut.ensures.within
+  within = c.cut-n.ensures.within
 
   held : length (take n rest) ≡ n
   held = length-take-le n rest within
 
-  here : spaced (drop top.loop.j ws) rest ≡ field ++ others
-  here = spaced_here ws rest top.loop.j n (omega arith) c.cut.ensures
+  here : spaced (drop top.loop-j.j ws) rest ≡ field ++ others
+  here = spaced_here ws rest top.loop-j.j n (omega arith) c.cut-n.ensures
 
   long : length field ≡ 1 + 2 * n
-  long = length_field _ rest n c.cut.ensures
+  long = length_field _ rest n c.cut-n.ensures
 
-  room : top.loop.at + (1 + 2 * n) ≤ length begun.args.out.now
-  room = room_next top.loop.inv.1 begun.pre field others here long
+  room : top.loop-j.at + (1 + 2 * n) ≤ length begun.args.out.now
+  room = room_next top.loop-j.invariant.1 begun.requires field others here long
 
-write-field-requires : tie.Need-write-field-requires invariant-loop decreases-loop
-write-field-requires c κs = let k : Known = search in room_for (top k).loop.inv.1 (1 + 2 * length (take (n k) (rest k))) (omega (arith, room k, held k))
+write_field-requires : tie.Need-write_field-requires invariant-loop decreases-loop
+write_field-requires c κs = let k : Known = search in room_for (top k).loop-j.invariant.1 (1 + 2 * length (take (n k) (rest k))) (omega (arith, room k, held k))
 
-loop-again : tie.Need-loop-preserved invariant-loop decreases-loop
+loop-again : tie.Need-loop-j-preserved invariant-loop decreases-loop
 loop-again c =
-    let written : tie.After-write-field invariant-loop decreases-loop = search in
+    let written : tie.After-write_field invariant-loop decreases-loop = search in
     let k : Known = search in
-    (omega arith, piece (top k).loop.inv.1 (field k) (here k) (long k) (room k) written.write-field.ensures)
+    (omega arith, piece (top k).loop-j.invariant.1 (field k) (here k) (long k) (room k) written.write_field.ensures)
 
 returns : tie.Need-returns invariant-loop decreases-loop
 unfolding spaced
 returns c =
     let l : Head = search in
     let b : Start = search in
-    let e = ap (λ (ws : List ℕ). spaced ws l.loop.rest.now) (drop_of_length-le b.args.widths.now {i = l.loop.j} (omega arith)) in
-    (ends_at l.loop.inv.1 e, ends l.loop.inv.1 e)
+    let e = ap (λ (ws : List ℕ). spaced ws l.loop-j.rest.now) (drop_of_length-le b.args.widths.now {i = l.loop-j.j} (omega arith)) in
+    (ends_at l.loop-j.invariant.1 e, ends l.loop-j.invariant.1 e)
 
 pub write_fields_spec : {M : Type 1} → statement M
 write_fields_spec =
@@ -94,10 +94,10 @@ write_fields_spec =
     (search rules)
     (search rules)
     (λ c. sym (held (search)))
-    (λ c. let l : Head = search in omega (arith, l.loop.inv.1.room))
-    (λ c. let l : Head = search in omega (arith, l.loop.inv.1.room))
+    (λ c. let l : Head = search in omega (arith, l.loop-j.invariant.1.room))
+    (λ c. let l : Head = search in omega (arith, l.loop-j.invariant.1.room))
     (search rules)
-    write-field-requires
+    write_field-requires
     (λ c. omega (arith, room (search)))
     (λ c. omega (arith, room (search)))
     (λ c. omega (arith, room (search)))
@@ -107,5 +107,5 @@ write_fields_spec =
     (search rules)
     (λ c. omega arith)
     loop-again
-    (λ c. let l : Head = search in l.loop.inv.1.same)
+    (λ c. let l : Head = search in l.loop-j.invariant.1.same)
     returns)

@@ -14,24 +14,24 @@ use Rattle.lines.proofs.write_hex.Statement.{statement}
 use Rattle.lines.proofs.write_hex.Tie as tie
 
 -- the digits of i bytes are written
-abbrev invariant-loop : tie.invariant-loop
+abbrev invariant-loop : tie.invariant-loop-i
 invariant-loop bytes out₀ at₀ i₀ out at i = (i ≤ length bytes) × (at ≡ 2 * i) × Writing (hex bytes) (hex (drop i bytes)) out₀ out at
 
-abbrev decreases-loop : tie.decreases-loop
+abbrev decreases-loop : tie.decreases-loop-i
 decreases-loop bytes out₀ at₀ i₀ out at i = length bytes - i
 
 abbrev Start : Type 0
 Start = tie.Start invariant-loop decreases-loop
 
 abbrev Head : Type 0
-Head = tie.At-loop invariant-loop decreases-loop
+Head = tie.At-loop-i invariant-loop decreases-loop
 
 -- a byte is read; both its digits are known
 abbrev Read : Type 0
-Read = tie.After-shared-slice-known2 invariant-loop decreases-loop
+Read = tie.After-shared_slice_known-in-loop-i-1 invariant-loop decreases-loop
 
 abbrev Digits : Type 0
-Digits = tie.After-hex-digit2 invariant-loop decreases-loop
+Digits = tie.After-hex_digit-in-loop-i invariant-loop decreases-loop
 
 module _ (c : Read) where
   abbrev head : Head
@@ -40,15 +40,15 @@ module _ (c : Read) where
   abbrev bytes : List ℕ
   bytes = let b : Start = search in b.args.bytes.now
 
-  small : get_or bytes head.loop.i 0 < 256
-  small = omega (arith, c.shared-slice-known2.given head.loop.i)
+  small : get_or bytes head.loop-i.i 0 < 256
+  small = omega (arith, c.shared_slice_known-in-loop-i-1.given head.loop-i.i)
 
-  low : bit_and (get_or bytes head.loop.i 0) 15 ≡ get_or bytes head.loop.i 0 % 16
+  low : bit_and (get_or bytes head.loop-i.i 0) 15 ≡ get_or bytes head.loop-i.i 0 % 16
   unfolding masked
-  low = ap (λ (ds : List ℕ). get_or ds 0 0) (masked_hex (get_or bytes head.loop.i 0) small)
+  low = ap (λ (ds : List ℕ). get_or ds 0 0) (masked_hex (get_or bytes head.loop-i.i 0) small)
 
 module _ (c : Digits) where
-  abbrev high : tie.After-hex-digit invariant-loop decreases-loop
+  abbrev high : tie.After-hex_digit invariant-loop decreases-loop
   high = search
 
   abbrev top : Head
@@ -61,32 +61,32 @@ module _ (c : Digits) where
   read = search
 
   abbrev digits : List ℕ
-  digits = high.hex-digit.result ∷ c.hex-digit2.result ∷ []
+  digits = high.hex_digit.result ∷ c.hex_digit-in-loop-i.result ∷ []
 
   abbrev others : List ℕ
-  others = hex (drop (top.loop.i + 1) begun.args.bytes.now)
+  others = hex (drop (top.loop-i.i + 1) begun.args.bytes.now)
 
-  here : hex (drop top.loop.i begun.args.bytes.now) ≡ digits ++ others
-  here = hex_here begun.args.bytes.now top.loop.i (omega arith) ∙ ap₂ (λ (u v : ℕ). u ∷ v ∷ others) (sym high.hex-digit.ensures) (sym (c.hex-digit2.ensures ∙ ap hex_digit (low read)))
+  here : hex (drop top.loop-i.i begun.args.bytes.now) ≡ digits ++ others
+  here = hex_here begun.args.bytes.now top.loop-i.i (omega arith) ∙ ap₂ (λ (u v : ℕ). u ∷ v ∷ others) (sym high.hex_digit.ensures) (sym (c.hex_digit-in-loop-i.ensures ∙ ap hex_digit (low read)))
 
-  room : top.loop.at + 2 ≤ length begun.args.out.now
-  room = omega (arith, top.loop.inv.1, begun.pre)
+  room : top.loop-i.at + 2 ≤ length begun.args.out.now
+  room = omega (arith, top.loop-i.invariant.1, begun.requires)
 
-write-pair-requires : tie.Need-write-pair-requires invariant-loop decreases-loop
-write-pair-requires c κs = let d : Digits = search in room_for (top d).loop.inv.2 2 (room d)
+write_pair-requires : tie.Need-write_pair-requires invariant-loop decreases-loop
+write_pair-requires c κs = let d : Digits = search in room_for (top d).loop-i.invariant.2 2 (room d)
 
-loop-again : tie.Need-loop-preserved invariant-loop decreases-loop
+loop-again : tie.Need-loop-i-preserved invariant-loop decreases-loop
 loop-again c =
-    let written : tie.After-write-pair invariant-loop decreases-loop = search in
+    let written : tie.After-write_pair invariant-loop decreases-loop = search in
     let d : Digits = search in
-    (omega arith, omega arith, piece (top d).loop.inv.2 (digits d) (here d) refl (room d) written.write-pair.ensures)
+    (omega arith, omega arith, piece (top d).loop-i.invariant.2 (digits d) (here d) refl (room d) written.write_pair.ensures)
 
 returns : tie.Need-returns invariant-loop decreases-loop
 unfolding hex
 returns c =
     let l : Head = search in
     let b : Start = search in
-    ends l.loop.inv.2 (ap hex (drop_of_length-le b.args.bytes.now {i = l.loop.i} (omega arith)))
+    ends l.loop-i.invariant.2 (ap hex (drop_of_length-le b.args.bytes.now {i = l.loop-i.i} (omega arith)))
 
 pub write_hex_spec : {M : Type 1} → statement M
 write_hex_spec =
@@ -98,13 +98,13 @@ write_hex_spec =
     (search rules)
     (λ c κs. let r : Read = search in omega (arith, small r, low r))
     (λ c κs. let r : Read = search in omega (arith, small r, low r))
-    (λ c. let l : Head = search in omega (arith, l.loop.inv.2.same))
-    (λ c. let l : Head = search in omega (arith, l.loop.inv.2.same))
+    (λ c. let l : Head = search in omega (arith, l.loop-i.invariant.2.same))
+    (λ c. let l : Head = search in omega (arith, l.loop-i.invariant.2.same))
     (search rules)
-    write-pair-requires
+    write_pair-requires
     (λ c. omega arith)
     (search rules)
     (λ c. omega arith)
     loop-again
-    (λ c. let l : Head = search in l.loop.inv.2.same)
+    (λ c. let l : Head = search in l.loop-i.invariant.2.same)
     returns)
