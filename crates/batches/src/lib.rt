@@ -2,7 +2,8 @@
 // a 32-bit number. Its files are plain ones or days; a batch does not tell.
 #![tactic(auto)]
 
-use libc::{STDIN_FILENO, STDOUT_FILENO};
+use std::io;
+use std::io::Read;
 
 // The longest file that a batch may have. The longest that loads has 65,535 bytes.
 const ROOM: usize = 70000;
@@ -18,44 +19,64 @@ pub enum Kind {
     Quotes,
 }
 
-fn print_stop() -> bool {
-    io::write_all(STDOUT_FILENO, b".\n")
+fn print_stop(rt: &impl Print) -> io::Result<()> {
+    rt.write_all(b".\n")
 }
 
-fn print_one(file: &[u8], kind: Kind) -> bool {
+fn print_one(rt: &impl Print, file: &[u8], kind: Kind) -> io::Result<()> {
     match kind {
-        Kind::Views => printing::print_file(file) && print_stop(),
-        Kind::DayViews => day_printing::print_day(file) && print_stop(),
-        Kind::Quotes => quote_printing::print_quote(file),
+        Kind::Views => {
+            printing::print_file(rt, file)?;
+            print_stop(rt)
+        }
+        Kind::DayViews => {
+            day_printing::print_day(rt, file)?;
+            print_stop(rt)
+        }
+        Kind::Quotes => quote_printing::print_quote(rt, file),
     }
 }
 
-// Reads n bytes into `file`, and prints the lines of the file that they are. Tells whether there were so many and all was
-// written.
-fn print_sized(file: &mut [u8], n: usize, kind: Kind) -> bool {
+// Reads n bytes into `file`, and prints the lines of the file that they are. Tells whether there were so many.
+fn print_sized<R: Read>(
+    rt: &impl Print,
+    reader: &mut R,
+    file: &mut [u8],
+    n: usize,
+    kind: Kind,
+) -> io::Result<bool> {
     if file.len() < n {
-        return false;
+        return Ok(false);
     }
     let part = &mut file[..n];
-    if io::read_full(STDIN_FILENO, part) != n {
-        return false;
+    if streams::read_full(reader, part)? != n {
+        return Ok(false);
     }
-    print_one(part, kind)
+    print_one(rt, part, kind)?;
+    Ok(true)
 }
 
 // Prints the next file's lines, and tells whether there was one.
-fn print_next(kind: Kind) -> bool {
+fn print_next<R: Read>(rt: &impl Print, reader: &mut R, kind: Kind) -> io::Result<bool> {
     let mut size = [0u8; 4];
-    if io::read_full(STDIN_FILENO, &mut size) != 4 {
-        return false;
+    if streams::read_full(reader, &mut size)? != 4 {
+        return Ok(false);
     }
     let mut file = [0u8; ROOM];
-    print_sized(&mut file, decode::u32_at(&size, 0) as usize, kind)
+    print_sized(
+        rt,
+        reader,
+        &mut file,
+        decode::u32_at(&size, 0) as usize,
+        kind,
+    )
 }
 
-pub fn print_batch(kind: Kind) {
+pub fn print_batch(rt: &(impl Input + Print), kind: Kind) -> io::Result<()> {
+    let mut reader = rt.reader();
     let mut turns: usize = MOST;
-    while 0 < turns && print_next(kind) {
+    while 0 < turns && print_next(rt, &mut reader, kind)? {
         turns -= 1;
     }
+    Ok(())
 }

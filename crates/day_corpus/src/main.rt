@@ -2,7 +2,8 @@
 #![tactic(auto)]
 
 use batches::Kind;
+use std::io;
 
-fn main() {
-    batches::print_batch(Kind::DayViews);
+fn main(rt: HostRuntime) -> io::Result<()> {
+    batches::print_batch(&rt, Kind::DayViews)
 }

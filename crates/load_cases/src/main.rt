@@ -5,8 +5,8 @@
 
 ghost use Rattle.std.specs.Prelude.{◌≤◌, ◌<◌, length};
 
-use libc::{STDIN_FILENO, STDOUT_FILENO};
 use script_file::Loaded;
+use std::io;
 
 const ROOM: usize = 65600;
 
@@ -76,56 +76,55 @@ fn fill(hex: &[u8], file: &mut [u8]) -> usize
     i
 }
 
-fn tell(answer: Loaded) {
+fn tell(rt: &impl Print, answer: Loaded) -> io::Result<()> {
     match answer {
         Loaded::Refused(r) => {
-            io::write_all(STDOUT_FILENO, b"refused ");
-            io::print_decimal(STDOUT_FILENO, script_file::number(r));
+            let n = script_file::number(r);
+            print!(rt; "refused {n}")
         }
-        Loaded::File(_) => {
-            io::write_all(STDOUT_FILENO, b"loaded");
-        }
+        Loaded::File(_) => print!(rt; "loaded"),
     }
 }
 
 // Loads the first `size` bytes.
-fn try_file(file: &[u8], size: usize) {
+fn try_file(rt: &impl Print, file: &[u8], size: usize) -> io::Result<()> {
     if file.len() < size {
-        return;
+        return Ok(());
     }
     let mut labels = [0u64; file_sections::WORDS];
-    tell(script_file::load(&file[0..size], &mut labels));
+    tell(rt, script_file::load(&file[0..size], &mut labels))
 }
 
-fn try_line(line: &[u8]) {
+fn try_line(rt: &impl Print, line: &[u8]) -> io::Result<()> {
     let a = find(line, 0, b' ');
     if a == line.len() {
-        return;
+        return Ok(());
     }
     let start = a + 1;
     let e = find(line, start, b' ');
     let mut file = [0u8; ROOM];
     let n = fill(&line[start..e], &mut file);
-    try_file(&file, n + decimal(&line[0..a]));
-    io::write_all(STDOUT_FILENO, b":");
-    io::write_all(STDOUT_FILENO, &line[e..]);
-    io::write_all(STDOUT_FILENO, b"\n");
+    try_file(rt, &file, n + decimal(&line[0..a]))?;
+    rt.write_all(b":")?;
+    rt.write_all(&line[e..])?;
+    rt.write_all(b"\n")
 }
 
-fn try_lines(text: &[u8]) {
+fn try_lines(rt: &impl Print, text: &[u8]) -> io::Result<()> {
     let mut at: usize = 0;
     while at < text.len() {
         let e = find(text, at, b'\n');
-        try_line(&text[at..e]);
+        try_line(rt, &text[at..e])?;
         if e == text.len() {
-            return;
+            return Ok(());
         }
         at = e + 1;
     }
+    Ok(())
 }
 
-fn main() {
-    let mut space = io::large_buffer();
-    let n = io::read_full(STDIN_FILENO, &mut space);
-    try_lines(&space[..n]);
+fn main(rt: HostRuntime) -> io::Result<()> {
+    let mut space = [0u8; 65536];
+    let n = streams::read_full(&mut rt.reader(), &mut space)?;
+    try_lines(&rt, &space[..n])
 }

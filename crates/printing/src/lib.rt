@@ -2,11 +2,11 @@
 #![tactic(auto)]
 
 use file_lines::ROOM;
-use libc::STDOUT_FILENO;
+use std::io;
 
-// Prints the lines of a file, and tells whether all of them were written.
-pub fn print_file(file: &[u8]) -> bool {
+// Prints the lines of a file.
+pub fn print_file(rt: &impl Print, file: &[u8]) -> io::Result<()> {
     let mut out = [0u8; ROOM];
     let n = file_lines::write_printed(file, &mut out);
-    io::write_all(STDOUT_FILENO, &out[..n])
+    rt.write_all(&out[..n])
 }
