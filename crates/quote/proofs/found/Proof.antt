@@ -5,8 +5,8 @@ use borrow.Author.Rules.{rules}
 use Rattle.quote.proofs.found.Statement.{statement}
 use Rattle.quote.proofs.found.Tie as tie
 
-past_figures : tie.Need-returns-2
-past_figures c = let b : tie.Start = search in sym (get_or-eq_default b.args.figures.now 0 c.if1.false)
+past_figures : tie.Need-returns
+past_figures c = let b : tie.Start = search in sym (get_or-eq_default b.args.figures.now 0 c.if-i-figures.false)
 
 pub found_spec : {M : Type 1} → statement M
 found_spec = tie.close (tie.spec (search rules) (search rules) (search rules) past_figures)

@@ -22,16 +22,16 @@ module _ (b : tie.Start) where
   h = b.args.h
 
   within : h.code.offset ≤ length bs
-  within = omega (arith, ap (λ (x : Header). x.code.offset) b.pre.1, (in_place bs b.pre.0).whole)
+  within = omega (arith, ap (λ (x : Header). x.code.offset) b.requires.1, (in_place bs b.requires.0).whole)
 
-quote-code-requires : tie.Need-quote-code-requires
-quote-code-requires c κs =
-    let b : tie.Start = search in subst Checked (sym (code-in (bs b) (h b) b.pre.1)) (checked_file (bs b) b.pre.0)
+quote_code-requires : tie.Need-quote_code-requires
+quote_code-requires c κs =
+    let b : tie.Start = search in subst Checked (sym (code-in (bs b) (h b) b.requires.1)) (checked_file (bs b) b.requires.0)
 
 returns : tie.Need-returns
 returns c =
     let b : tie.Start = search in
-    c.quote-code.ensures ∙ ap code_quote (code-in (bs b) (h b) b.pre.1) ∙ loads_quoted (bs b) b.pre.0
+    c.quote_code.ensures ∙ ap code_quote (code-in (bs b) (h b) b.requires.1) ∙ loads_quoted (bs b) b.requires.0
 
 pub quote_loaded_spec : {M : Type 1} → statement M
 quote_loaded_spec =
@@ -40,5 +40,5 @@ quote_loaded_spec =
     (λ c. omega (arith, within (search)))
     (λ c. omega (arith, within (search)))
     (search rules)
-    quote-code-requires
+    quote_code-requires
     returns)

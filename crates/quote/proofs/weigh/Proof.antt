@@ -39,13 +39,13 @@ module _ (b : tie.Start) where
   -- the figures of the instruction behind it are those at its place, and small
   next_steps : (steps_at (after code b.args.i) ≡ b.args.next.steps) × (b.args.next.steps < 2 ^ 29)
   next_steps =
-      let e = b.pre.2.same_steps in
-      (e, omega (arith, e, b.pre.3.below (after code b.args.i)))
+      let e = b.requires.2.same_steps in
+      (e, omega (arith, e, b.requires.3.below (after code b.args.i)))
 
   next_places : (places_at (after code b.args.i) ≡ b.args.next.places) × (b.args.next.places < 2 ^ 29)
   next_places =
-      let e = b.pre.2.same_places in
-      (e, omega (arith, e, b.pre.4.below (after code b.args.i)))
+      let e = b.requires.2.same_places in
+      (e, omega (arith, e, b.requires.4.below (after code b.args.i)))
 
   -- the node of an opcode, here
   abbrev with_opcode : ℕ → Node
@@ -59,67 +59,67 @@ module _ (b : tie.Start) where
 
 module _ (f : tie.After-found) where
   jump_steps : f.found.result ≡ steps_at (search) (target (search))
-  jump_steps = let t : tie.After-target-at = search in f.found.ensures ∙ ap (steps_at (search)) t.target_at.ensures
+  jump_steps = let t : tie.After-target_at-target = search in f.found.ensures ∙ ap (steps_at (search)) t.target_at-target.ensures
 
   small_jump : f.found.result < 2 ^ 29
-  small_jump = let b : tie.Start = search in omega (arith, jump_steps, b.pre.3.below (target b))
+  small_jump = let b : tie.Start = search in omega (arith, jump_steps, b.requires.3.below (target b))
 
-module _ (f : tie.After-found3) where
-  branch_steps : f.found3.result ≡ steps_at (search) (target (search))
-  branch_steps = let t : tie.After-target-at2 = search in f.found3.ensures ∙ ap (steps_at (search)) t.target-at2.ensures
+module _ (f : tie.After-found-in-11) where
+  branch_steps : f.found-in-11.result ≡ steps_at (search) (target (search))
+  branch_steps = let t : tie.After-target_at-target-in-11 = search in f.found-in-11.ensures ∙ ap (steps_at (search)) t.target_at-target-in-11.ensures
 
-  small_branch : f.found3.result < 2 ^ 29
-  small_branch = let b : tie.Start = search in omega (arith, branch_steps, b.pre.3.below (target b))
+  small_branch : f.found-in-11.result < 2 ^ 29
+  small_branch = let b : tie.Start = search in omega (arith, branch_steps, b.requires.3.below (target b))
 
-larger_small : tie.Need-overflow-add-weighed-2
+larger_small : tie.Need-overflow_add-most_steps
 larger_small c =
-    let l : tie.After-larger = search in
-    let s : tie.After-found3 = search in
-    omega (arith, small_branch s, l.larger.ensures, (next_steps (search)).1)
+    let l : tie.After-larger-most_steps = search in
+    let s : tie.After-found-in-11 = search in
+    omega (arith, small_branch s, l.larger-most_steps.ensures, (next_steps (search)).1)
 
 -- ── the arms ──
 
-jumps : tie.Need-returns-2
+jumps : tie.Need-returns-in-10
 unfolding node instrs
 jumps c =
-    let w : tie.After-weighed2 = search in
-    let p : tie.After-found2 = search in
+    let w : tie.After-weighed-in-10 = search in
+    let p : tie.After-found-in-10 = search in
     let s : tie.After-found = search in
-    let t : tie.After-target-at = search in
+    let t : tie.After-target_at-target = search in
     let b : tie.Start = search in
-    let e : p.found2.result ≡ places_at b (target b) = p.found2.ensures ∙ ap (places_at b) t.target_at.ensures in
+    let e : p.found-in-10.result ≡ places_at b (target b) = p.found-in-10.ensures ∙ ap (places_at b) t.target_at-target.ensures in
     arm b 10 (search)
-    (w.weighed2.ensures ∙ same_weight (ap (ltb b.args.i) t.target_at.ensures) (omega (arith, jump_steps s)) (omega (arith, e)))
+    (w.weighed-in-10.ensures ∙ same_weight (ap (ltb b.args.i) t.target_at-target.ensures) (omega (arith, jump_steps s)) (omega (arith, e)))
 
-branches : tie.Need-returns-3
+branches : tie.Need-returns-in-11
 unfolding node instrs
 branches c =
-    let w : tie.After-weighed3 = search in
-    let most_p : tie.After-larger2 = search in
-    let p : tie.After-found4 = search in
-    let most_s : tie.After-larger = search in
-    let s : tie.After-found3 = search in
-    let t : tie.After-target-at2 = search in
+    let w : tie.After-weighed-in-11 = search in
+    let most_p : tie.After-larger-most_places = search in
+    let p : tie.After-found-in-11-2 = search in
+    let most_s : tie.After-larger-most_steps = search in
+    let s : tie.After-found-in-11 = search in
+    let t : tie.After-target_at-target-in-11 = search in
     let b : tie.Start = search in
-    let e : p.found4.result ≡ places_at b (target b) = p.found4.ensures ∙ ap (places_at b) t.target-at2.ensures in
+    let e : p.found-in-11-2.result ≡ places_at b (target b) = p.found-in-11-2.ensures ∙ ap (places_at b) t.target_at-target-in-11.ensures in
     arm b 11 (search)
-    (w.weighed3.ensures
-    ∙ same_weight (ap (ltb b.args.i) t.target-at2.ensures)
-    (omega (arith, branch_steps s, most_s.larger.ensures, (next_steps b).0))
-    (omega (arith, e, most_p.larger2.ensures, (next_places b).0)))
+    (w.weighed-in-11.ensures
+    ∙ same_weight (ap (ltb b.args.i) t.target_at-target-in-11.ensures)
+    (omega (arith, branch_steps s, most_s.larger-most_steps.ensures, (next_steps b).0))
+    (omega (arith, e, most_p.larger-most_places.ensures, (next_places b).0)))
 
-block : tie.Need-returns-6
+block : tie.Need-returns-in-25
 unfolding node instrs
 block c =
-    let w : tie.After-weighed6 = search in
-    let k : tie.After-byte-at = search in
-    let n : tie.After-u16-at = search in
-    let t : tie.After-target-at3 = search in
+    let w : tie.After-weighed-in-25 = search in
+    let k : tie.After-byte_at = search in
+    let n : tie.After-u16_at = search in
+    let t : tie.After-target_at = search in
     let b : tie.Start = search in
     arm b 25 (search)
-    (w.weighed6.ensures
-    ∙ same_weight (ap (ltb b.args.i) t.target-at3.ensures)
-    (omega (arith, n.u16-at.ensures, (next_steps b).0))
+    (w.weighed-in-25.ensures
+    ∙ same_weight (ap (ltb b.args.i) t.target_at.ensures)
+    (omega (arith, n.u16_at.ensures, (next_steps b).0))
     (omega (arith, k.byte_at.ensures, (next_places b).0)))
 
 -- an instruction that makes a record, and one that only goes on
@@ -131,20 +131,20 @@ goes_onward : (b : tie.Start) → weight true (1 + b.args.next.steps) b.args.nex
     ≡ weight_from (steps_at b) (places_at b) (goes_on (after (code b) b.args.i))
 goes_onward b = same_weight refl (omega (arith, (next_steps b).0)) (omega (arith, (next_places b).0))
 
-tries : tie.Need-returns-7
+tries : tie.Need-returns-in-26
 unfolding node instrs
 tries c =
-    let w : tie.After-weighed7 = search in
+    let w : tie.After-weighed-in-26 = search in
     let b : tie.Start = search in
-    arm b 26 (search) (w.weighed7.ensures ∙ same_weight refl (omega (arith, (next_steps b).0)) (omega (arith, (next_places b).0)))
+    arm b 26 (search) (w.weighed-in-26.ensures ∙ same_weight refl (omega (arith, (next_steps b).0)) (omega (arith, (next_places b).0)))
 
-others : tie.Need-returns-9
+others : tie.Need-returns-in_default
 others c =
-    let w : tie.After-weighed9 = search in
+    let w : tie.After-weighed-in_default = search in
     let b : tie.Start = search in
-    subst (λ (x : Node). w.weighed9.result ≡ weight_from (steps_at b) (places_at b) x)
-    (plain_else (code b) (b.args.i + 1) b.args.op b.pre.1 b.args.i (after (code b) b.args.i) (search))
-    (w.weighed9.ensures ∙ goes_onward b)
+    subst (λ (x : Node). w.weighed-in_default.result ≡ weight_from (steps_at b) (places_at b) x)
+    (plain_else (code b) (b.args.i + 1) b.args.op b.requires.1 b.args.i (after (code b) b.args.i) (search))
+    (w.weighed-in_default.ensures ∙ goes_onward b)
 
 pub weigh_spec : {M : Type 1} → statement M
 unfolding node instrs
@@ -191,9 +191,9 @@ weigh_spec =
     (λ c. arm (search) 0 (search) c.weighed.ensures)
     jumps
     branches
-    (λ c. arm (search) 19 (search) (c.weighed4.ensures ∙ makes (search)))
-    (λ c. arm (search) 22 (search) (c.weighed5.ensures ∙ makes (search)))
+    (λ c. arm (search) 19 (search) (c.weighed-in-19.ensures ∙ makes (search)))
+    (λ c. arm (search) 22 (search) (c.weighed-in-22.ensures ∙ makes (search)))
     block
     tries
-    (λ c. arm (search) 28 (search) c.weighed8.ensures)
+    (λ c. arm (search) 28 (search) c.weighed-in-28.ensures)
     others)
