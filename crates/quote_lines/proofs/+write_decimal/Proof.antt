@@ -39,13 +39,13 @@ module _ (t : ℕ) where
   Begins = write-decimal-lts.Start calls (write_decimal_at t) write-decimal.Post
 
   abbrev OneDigit : Type 0
-  OneDigit = write-decimal-lts.Then1 calls (write_decimal_at t) write-decimal.Post
+  OneDigit = write-decimal-lts.Then-n-lt10 calls (write_decimal_at t) write-decimal.Post
 
   abbrev More : Type 0
-  More = write-decimal-lts.Else1 calls (write_decimal_at t) write-decimal.Post
+  More = write-decimal-lts.Else-n-lt10 calls (write_decimal_at t) write-decimal.Post
 
   abbrev Tenth : Type 0
-  Tenth = write-decimal-lts.After-write-decimal calls (write_decimal_at t) write-decimal.Post
+  Tenth = write-decimal-lts.After-write_decimal-at calls (write_decimal_at t) write-decimal.Post
 
   module _ (b : Begins) where
     abbrev n : ℕ
@@ -55,7 +55,7 @@ module _ (t : ℕ) where
     out = b.args.out.now
 
     room : length (decimal n) ≤ length out
-    room = b.pre.1
+    room = b.requires.1
 
   -- ── one digit ──
 
@@ -64,7 +64,7 @@ module _ (t : ℕ) where
     begun = search
 
     small : n begun < 10
-    small = c.if1.true
+    small = c.if-n-lt10.true
 
     fits : 0 < length (out begun)
     fits = omega (arith, ap length (one_digit (n begun) small), room begun)
@@ -79,7 +79,7 @@ module _ (t : ℕ) where
     at_more = search
 
     large : 10 ≤ n at_more
-    large = c.if1.false
+    large = c.if-n-lt10.false
 
     longer : length (decimal (n at_more)) ≡ length (decimal (n at_more / 10)) + 1
     longer = ap length (more_digits (n at_more) large) ∙ length-append (decimal (n at_more / 10)) ((0x30 + n at_more % 10) ∷ [])
@@ -92,20 +92,20 @@ module _ (t : ℕ) where
     b = at_more more
 
     abbrev tenth : ℕ
-    tenth = c.write-decimal.result
+    tenth = c.write_decimal-at.result
 
     is_long : tenth + 1 ≡ length (decimal (n b))
-    is_long = omega (arith, longer more, c.write-decimal.ensures.0)
+    is_long = omega (arith, longer more, c.write_decimal-at.ensures.0)
 
-    written : Writing (decimal (n b)) ((0x30 + n b % 10) ∷ []) (out b) c.write-decimal.new.1.0 tenth
+    written : Writing (decimal (n b)) ((0x30 + n b % 10) ∷ []) (out b) c.write_decimal-at.new.out tenth
     written =
-        first (decimal (n b / 10)) (more_digits (n b) (large more)) (sym c.write-decimal.ensures.0) (omega (arith, is_long, room b)) c.write-decimal.ensures.1
+        first (decimal (n b / 10)) (more_digits (n b) (large more)) (sym c.write_decimal-at.ensures.0) (omega (arith, is_long, room b)) c.write_decimal-at.ensures.1
 
-    last_digit : Writing (decimal (n b)) [] (out b) (set c.write-decimal.new.1.0 tenth (0x30 + n b % 10)) (tenth + 1)
+    last_digit : Writing (decimal (n b)) [] (out b) (set c.write_decimal-at.new.out tenth (0x30 + n b % 10)) (tenth + 1)
     last_digit = byte written refl (omega (arith, is_long, room b))
 
-pub +write-decimal-spec : {M : Type 1} → statement M
-+write-decimal-spec = close μ-write-decimal λ t. write-decimal-lts.spec (calls t)
+pub +write_decimal_spec : {M : Type 1} → statement M
++write_decimal_spec = close μ-write-decimal λ t. write-decimal-lts.spec (calls t)
     (write_decimal_at t)
     write-decimal.Post
     (λ c. omega (arith, small t c))
@@ -117,6 +117,6 @@ pub +write-decimal-spec : {M : Type 1} → statement M
     (λ c. omega arith)
     (λ c. omega arith)
     (λ c. let w : Tenth t = search in omega (arith, is_long t w, room t (b t w), (written t w).same))
-    (λ c. let w : Tenth t = search in omega (arith, is_long t w, room t (b t w), (b t w).good.1.0.0))
+    (λ c. let w : Tenth t = search in omega (arith, is_long t w, room t (b t w), (b t w).well_formed.1.0.0))
     (λ c. (last_digit t (search)).same)
     (λ c. let w : Tenth t = search in (ends_at (last_digit t w) refl, ends (last_digit t w) refl))
