@@ -2,7 +2,7 @@
 -- and its end leaves the mapped store; so the turns of a whole day are the mapped turns.
 use mathlib.Core.Bool.{Bool, true, false}
 use mathlib.Core.List.{List, [], ◌∷◌, map}
-use mathlib.Core.Path.{◌≡◌, refl, sym, ap, ap₂, ◌∙◌}
+use mathlib.Core.Path.{◌≡◌, refl, ap, ap₂, ◌∙◌}
 use Prim.Native.Nat.{ℕ, suc}
 use lib.Dec.{leb, ltb}
 use Rattle.labels.specs.declared.Label.{Label}
@@ -13,7 +13,6 @@ use Rattle.model.specs.declared.Datum.{Datum}
 use Rattle.model.specs.declared.Datum.TheVariants.{Number, Label as Labelled, Handle}
 use Rattle.model.specs.declared.Contents.{Contents}
 use Rattle.model.specs.declared.Contents.TheVariants.{Value as Holds, Fault}
-use Rattle.model.specs.declared.Record.{Record}
 use Rattle.model.specs.declared.Slot.{Slot}
 use Rattle.model.specs.declared.Slot.TheVariants.{Empty, Full}
 use Rattle.relabelling.specs.Relabelled.{datum_under, contents_under, slot_under, store_under, outcome_under, input_under}
@@ -22,7 +21,7 @@ use Rattle.relabelling.proofs.Lists.{cond_under}
 use Rattle.relabelling.proofs.Runs.{runs_under}
 use Rattle.relabelling.proofs.Starts.{inputs_under, slots_under, store-under, program_under}
 use Rattle.file_sections.specs.Sections.{record_bytes_of, inputs_over}
-use Rattle.day_file.specs.Sections.{day_header, day_sections, day_label_over, day_inputs_over, jobs_of_day, span}
+use Rattle.day_file.specs.Sections.{day_header, day_sections, day_label_over, jobs_of_day, span}
 use Rattle.day_file.specs.declared.Job.{Job}
 use Rattle.admission.specs.Admission.{day_admitted}
 use Rattle.day_jobs.specs.JobEnd.{kept_datum, kept_contents, kept_slot, end_slot, end_from, end_job}

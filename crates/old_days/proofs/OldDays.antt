@@ -10,7 +10,6 @@ use lib.ListN.{length, drop}
 use Rattle.labels.specs.Tables.{principals}
 use Rattle.labels.specs.Order.{flows}
 use Rattle.labels.specs.declared.Label.{Label}
-use Rattle.file_sections.specs.Checks.{every}
 use Rattle.view.specs.declared.Answer.TheVariants.{Viewed}
 use Rattle.day_file.specs.Sections.{day_header, day_sections, day_label_over, day_label, jobs_of_day}
 use Rattle.day_file.specs.Checks.{passes1, passes2, passes3, passes4_over, passes10_over, passes6, passes7, job_ok, jobs_ok, check, day_refusal_over, day_refusal}

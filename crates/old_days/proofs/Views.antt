@@ -1,7 +1,7 @@
 -- The views of a day are what they show, laid out; and turns under a map of labels show the contents under that map.
 use mathlib.Core.Bool.{Bool}
 use mathlib.Core.List.{List, [], ◌∷◌, ◌++◌, map}
-use mathlib.Core.Path.{◌≡◌, refl, ap, ap₂, ◌∙◌}
+use mathlib.Core.Path.{◌≡◌, refl, ap, ap₂}
 use Prim.Native.Nat.{ℕ}
 use Rattle.labels.specs.declared.Label.{Label}
 use Rattle.old_files.proofs.Views.{view_laid_out, contents-under, outcome_twice, contents_twice}

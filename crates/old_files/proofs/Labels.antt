@@ -1,6 +1,6 @@
 -- The labels of a file, plain or a day, that are well formed over six principals: over eight they are so too, and each is the
 -- repeated one.
-use mathlib.Core.Bool.{Bool, true}
+use mathlib.Core.Bool.{true}
 use mathlib.Core.List.{List, map}
 use mathlib.Core.Option.{Option, none, some}
 use mathlib.Core.Path.{◌≡◌, refl, sym, ap, ap₂, ◌∙◌}
