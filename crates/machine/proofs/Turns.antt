@@ -1,12 +1,12 @@
 -- How the code's instructions meet the definition, one after the other.
-use mathlib.Core.Bool.{Bool, true, false, cond, not}
+use mathlib.Core.Bool.{Bool, true, false, cond}
 use mathlib.Core.Path.{◌≡◌, refl, sym, ap, subst, ◌∙◌}
 use mathlib.Core.List.{List}
 use Prim.Native.Nat.{ℕ, zero, suc, ◌+◌, ◌-◌, min, ◌≤◌, ◌<◌}
 use native.Mathlib.Omega.{arith}
 use native.Mathlib.Nat.{le_refl}
 use lib.Dec.{ltb}
-use borrow.Author.Tests.{ltb-true, ltb-false, lt-ltb, not-false}
+use borrow.Author.Tests.{ltb-true, ltb-false, lt-ltb}
 use lib.ListN.{length, get_or, replicate}
 use Rattle.model.specs.declared.Value.{Value}
 use Rattle.model.specs.declared.Ending.{Ending}
@@ -161,9 +161,9 @@ module _ (code ws rs : List ℕ) where
     pub ok : Ok s
     pub live : Live s
 
-  pub turn : (s0 s : State) (b : Bool) → Ok s0 → b ≡ ready_of s0 → not b ≡ false → s ≡ charged 1 s0 → Turn s0 s
+  pub turn : (s0 s : State) (b : Bool) → Ok s0 → b ≡ ready_of s0 → b ≡ true → s ≡ charged 1 s0 → Turn s0 s
   turn s0 s b ok eb nb es =
-      let r : Ready s0 = is_ready s0 (sym eb ∙ not-false b nb) in
+      let r : Ready s0 = is_ready s0 (sym eb ∙ nb) in
       record { at = r; paid = es; ok = rw es ok; live = rw es r.live }
 
   -- a turn is through, r with the records τ being what it leaves, of n turns from s0 with the records σ
