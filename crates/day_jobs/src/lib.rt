@@ -17,6 +17,7 @@ use store::PLACES;
 
 // ---- the end of a job, of a day with `count` input records
 
+#[tactic(auto, unfolding(crate::specs::JobEnd::kept_datum))]
 fn kept_datum(count: usize, d: Datum) -> Contents
     ensures { result ≡ kept_datum count d }
 {
@@ -32,6 +33,7 @@ fn kept_datum(count: usize, d: Datum) -> Contents
     }
 }
 
+#[tactic(auto, unfolding(crate::specs::JobEnd::kept_contents))]
 fn kept_contents(count: usize, contents: Contents) -> Contents
     ensures { result ≡ kept_contents count contents }
 {
