@@ -1,10 +1,7 @@
 -- `label_entries::read_entry` meets its contract: each test that fails is one of those of a well-formed entry. Assumes nothing.
-use mathlib.Core.List.{List}
-use mathlib.Core.Path.{◌≡◌, sym, ap, ◌∙◌}
-use Prim.Native.Nat.{ℕ, ◌≤◌}
+use mathlib.Core.Path.{sym, ap, ◌∙◌}
 use native.Mathlib.Omega.{arith}
-use lib.ListN.{length}
-use Rattle.label_entries.specs.Entries.{entry_length, read_formula}
+use Rattle.label_entries.specs.Entries.{read_formula}
 use Rattle.label_entries.proofs.Reading.{refused, secrecy_part, integrity_part, secrecy_refused, integrity_refused, both_read}
 use Rattle.label_entries.proofs.read_entry.Goals as goal
 

@@ -1,5 +1,5 @@
 -- The words written at a place are the record read back.
-use Rattle.std.proofs.Common.{◌≡◌, ℕ, ◌+◌, ◌*◌, List, set, ap, ◌∙◌, arith}
+use Rattle.std.proofs.Common.{ℕ, ◌+◌, ◌*◌, List, set, ap, ◌∙◌, arith}
 use Rattle.labels.specs.Words.{with_table}
 use Rattle.store.specs.Slots.{tag_at, first_at, second_at, width, slots}
 use Rattle.store.proofs.Places.{slot_put, slot_keep, slot_back}
