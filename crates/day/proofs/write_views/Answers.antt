@@ -70,7 +70,8 @@ pub job_at-job-requires : goal.job_at-job-requires
 job_at-job-requires c = omega (arith, starts_below c.requires.0 _ c.loop-k-test.true)
 
 pub admit_caller-answer-requires : goal.admit_caller-answer-requires
-admit_caller-answer-requires c = (runs c.requires.0 _ c.loop-k-test.true _ c.job_at-job.ensures.0).caller
+admit_caller-answer-requires c =
+    omega (arith, (runs c.requires.0 _ c.loop-k-test.true _ c.job_at-job.ensures.0).caller, c.loop-k-test.true, few c.requires.0)
 
 pub serve_job-at-requires : goal.serve_job-at-requires
 serve_job-at-requires c = (
