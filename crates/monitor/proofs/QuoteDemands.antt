@@ -15,7 +15,8 @@ use Rattle.quote.specs.Quoting.{quoting}
 use Rattle.quote.specs.declared.Figures.{Figures}
 use Rattle.quote.specs.declared.Quote.{Quote}
 use Rattle.quote.specs.declared.Quote.TheVariants.{Refused, Quoted}
-use Rattle.quote.proofs.Promises.{LargestOf, NoRunMore, refused_with, quote_largest, quote_bounds, steps_least, figures_short}
+use Rattle.quote.proofs.Promises.{LargestOf, NoRunMore, refused_with, quote_bounds, steps_least, figures_short}
+use Rattle.quote.proofs.QuotedLargest.{quote_largest}
 use Rattle.monitor.specs.Calls.{QuoteRefusal, quote_code, told_quote}
 
 -- ── total, and what the figures are ──

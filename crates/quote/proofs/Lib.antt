@@ -6,6 +6,7 @@ pub mod Onwards
 pub mod Pass
 pub mod Files
 pub mod Promises
+pub mod QuotedLargest
 pub mod Example
 pub mod Follows
 pub mod Runs

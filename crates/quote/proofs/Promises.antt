@@ -206,10 +206,6 @@ module _ (bs : List ℕ) (f : Figures) (q : quoting bs ≡ Quoted f) where
         ),
       )
 
-  -- The figures are the largest.
-  pub quote_largest : LargestOf (code_bytes bs) f
-  quote_largest = subst (LargestOf (code_bytes bs)) passed.figures (figures_largest (code_bytes bs) checked passed.ahead)
-
   -- No run of that code uses more.
   pub quote_bounds : NoRunMore (code_bytes bs) f
   quote_bounds = subst (NoRunMore (code_bytes bs)) passed.figures (figures_bound (code_bytes bs) checked passed.ahead)
