@@ -12,7 +12,7 @@ use Rattle.view_fields.proofs.Buffers.{Writing, start, more, ends}
 use Rattle.day_file.specs.declared.Job.{Job}
 use Rattle.day_file.specs.Sections.{jobs_from}
 use Rattle.admission.specs.Admission.{fits, left_after}
-use Rattle.day_jobs.specs.Running.{Turn, skipped, ran, job_run, store_after, turns, turns_over}
+use Rattle.day_jobs.specs.Running.{Turn, skipped, ran, job_run, store_after, turns_over}
 use Rattle.day_jobs.proofs.Turns.{turns_from, turn_skipped, turn_ran, jobs_left, job, all_left, next_job, none_left}
 use Rattle.day.specs.Views.{each_turn}
 use Rattle.day.specs.Parts.{shown_at, most_bytes}

@@ -36,7 +36,7 @@ use Rattle.admission.specs.Admission.{fits, allowed, left_after, day_admitted}
 use Rattle.admission.specs.Allowances.{admission_of, allowances_of}
 use Rattle.admission.proofs.Allowances.{Holds, at_first, answered, holds_then}
 use Rattle.day_jobs.specs.JobEnd.{end_job}
-use Rattle.day_jobs.specs.Running.{ran, job_run, store_after, store_after_over, day_turns, day_turns_over}
+use Rattle.day_jobs.specs.Running.{job_run, store_after, store_after_over, day_turns, day_turns_over}
 use Rattle.day.specs.Views.{skipped_view, skipped_view_over, turn_view, turn_view_over, turn_views}
 use Rattle.day.specs.Parts.{shown_at}
 use Rattle.day_jobs.proofs.Jobs.{records_are, counted, labels_are}

@@ -1,6 +1,6 @@
 -- The end of a job: "Once a job's view is fixed, new ones vanish and contents that are a handle to any place from C on,
 -- whether a record still stands there or not, become fault 33, number 0." C is the number of input records.
-use Rattle.std.specs.Prelude.{cond, List, [], ◌∷◌, ℕ, suc, leb, ltb}
+use Rattle.std.specs.Prelude.{cond, [], ◌∷◌, ℕ, suc, leb, ltb}
 use Rattle.model.specs.State.{Store}
 use Rattle.model.specs.declared.Datum.{Datum}
 use Rattle.model.specs.declared.Datum.TheVariants.{Number, Label as Labelled, Handle}

@@ -24,7 +24,7 @@ use Rattle.admission.specs.declared.Admission.{Admission}
 use Rattle.admission.specs.Admission.{fits, allowed, left_after, day_admitted}
 use Rattle.admission.specs.Allowances.{admission_of, allowances_of}
 use Rattle.admission.proofs.Allowances.{Holds, at_first, answered, holds_then}
-use Rattle.day_jobs.specs.Running.{Turn, skipped, ran, job_run, store_after, turns, turns_over, day_turns, day_turns_over}
+use Rattle.day_jobs.specs.Running.{Turn, skipped, ran, job_run, store_after, turns_over, day_turns, day_turns_over}
 use Rattle.day_jobs.proofs.Turns.{turns_from, turn_skipped, turn_ran, jobs_left, job, all_left, next_job, none_left}
 use Rattle.day.specs.Views.{turn_view, turn_view_over}
 use Rattle.day.proofs.Views.{served_view}

@@ -1,7 +1,6 @@
 -- `day::write_views` meets its contract. The loop's invariant is `Served`.
 use Rattle.std.proofs.Common.{List, ◌≡◌, refl, sym, ap, subst, ◌∙◌, ℕ, ◌+◌, ◌*◌, ◌≤◌, ◌<◌, length, arith}
 use Rattle.reading.proofs.Calls.{no-records}
-use Rattle.view.specs.Writing.{observes}
 use Rattle.day_file.specs.declared.Header.{Header}
 use Rattle.day_file.specs.declared.Job.{Job}
 use Rattle.day_file.specs.Sections.{day_header, job_from}
@@ -10,7 +9,7 @@ use Rattle.day_file.proofs.Answers.{few_jobs, most_bytes}
 use Rattle.admission.specs.Allowances.{allowances_of}
 use Rattle.day_jobs.specs.Parts.{Runnable}
 use Rattle.day_jobs.proofs.Jobs.{ordered, records_short, job_runs}
-use Rattle.day.proofs.Views.{job_at, none_served, one_skipped, one_ran, all_served, inputs_placed}
+use Rattle.day.proofs.Views.{none_served, one_skipped, one_ran, all_served, inputs_placed}
 use Rattle.day.proofs.write_views.Goals as goal
 use Rattle.day.proofs.write_views.Goals.{then-answer, else-answer}
 

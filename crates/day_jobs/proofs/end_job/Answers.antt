@@ -1,6 +1,5 @@
 -- `day_jobs::end_job` meets its contract. The loop's invariant is `Ending`.
 use Rattle.std.proofs.Common.{◌∙◌, arith}
-use Rattle.store.specs.Slots.{slots}
 use Rattle.store.proofs.Places.{length_slots}
 use Rattle.day_jobs.proofs.JobEnd.{none_yet, one_more, all_ended}
 use Rattle.day_jobs.proofs.end_job.Goals as goal

@@ -1,5 +1,5 @@
 -- `day_jobs::run_job` meets its contract.
-use Rattle.std.proofs.Common.{List, ℕ, ◌+◌, ◌≤◌, length, arith}
+use Rattle.std.proofs.Common.{List, ℕ, ◌≤◌, length, arith}
 use Rattle.day_file.specs.declared.Header.{Header}
 use Rattle.day_file.specs.Parts.{DayLoads}
 use Rattle.day_jobs.proofs.Jobs.{ordered, counted, run_is, span_short}

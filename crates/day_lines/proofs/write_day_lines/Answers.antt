@@ -17,9 +17,9 @@ use Rattle.day.specs.Views.{turn_view}
 use Rattle.day_jobs.proofs.Jobs.{ordered, labels_are}
 use Rattle.day_turns.specs.Keeping.{stores_words, none, turn_of, store_at}
 use Rattle.day_turns.specs.declared.JobEnd.{JobEnd}
-use Rattle.day_turns.proofs.Stores.{length_part, part_is}
+use Rattle.day_turns.proofs.Stores.{part_is}
 use Rattle.day_lines.specs.Room.{most_day_lines}
-use Rattle.day_lines.proofs.Jobs.{room_here, one_more, all_served, lines_are}
+use Rattle.day_lines.proofs.Jobs.{one_more, all_served, lines_are}
 use Rattle.day_lines.proofs.write_day_lines.Goals as goal
 
 -- the day, its header and the words of its labels
