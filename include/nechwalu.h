@@ -1,6 +1,6 @@
 /*
  * Reading a script file, or a day of up to 16 scripts, for one of its labels, and the quote of a script file, on x86-64.
- * Link with libmonitor.a, which `rt staticlib monitor` writes.
+ * Link with libmonitor.a, which `rt lib` in crates/monitor writes.
  *
  * docs/SCRIPTS.md describes script files (there: plain files), days, faults and refusals, and under "A view" what is
  * written to the buffer.
