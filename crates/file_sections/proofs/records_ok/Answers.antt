@@ -28,7 +28,7 @@ returns-then-byte_at-gt1 c =
     let n = c.args.count in
     let i = c.loop-i.i in
     sym (here l bs n i c.loop-i.invariant.rest (omega (arith, c.loop-i-test.true))
-    ∙ kind_stops l bs (n - (i + 1)) (6 * i) (omega (arith, c.byte_at.ensures, c.if-byte_at-gt1.true)))
+    ∙ kind_stops l bs (n - (i + 1)) (6 * i) (omega (arith, c.byte_at.ensures)))
 
 pub returns-then-labels-index_at : goal.returns-then-labels-index_at
 returns-then-labels-index_at c =
@@ -36,7 +36,7 @@ returns-then-labels-index_at c =
     let bs = c.args.bytes.now in
     let n = c.args.count in
     let i = c.loop-i.i in
-    let kind : byte bs (6 * i) ≤ 1 = omega (arith, c.byte_at.ensures, c.if-byte_at-gt1.false) in
+    let kind : byte bs (6 * i) ≤ 1 = omega (arith, c.byte_at.ensures) in
     sym (here l bs n i c.loop-i.invariant.rest (omega (arith, c.loop-i-test.true))
     ∙ label_stops l bs (n - (i + 1)) (6 * i) kind (omega (arith, c.index_at.ensures, c.if-labels-index_at.true)))
 
@@ -46,7 +46,7 @@ loop-i-preserved c =
     let bs = c.args.bytes.now in
     let n = c.args.count in
     let i = c.loop-i.i in
-    let kind : byte bs (6 * i) ≤ 1 = omega (arith, c.byte_at.ensures, c.if-byte_at-gt1.false) in
+    let kind : byte bs (6 * i) ≤ 1 = omega (arith, c.byte_at.ensures) in
     let next : 6 * i + 6 ≡ 6 * (i + 1) = omega arith in
     record {
       turns = omega (arith, c.loop-i-test.true);

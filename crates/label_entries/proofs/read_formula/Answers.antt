@@ -11,7 +11,7 @@ use Rattle.label_entries.proofs.Reading.{formula_long, formula_bad, formula_good
 use Rattle.label_entries.proofs.read_formula.Goals as goal
 
 pub returns-then-masks-gt-MOST_CLAUSES : goal.returns-then-masks-gt-MOST_CLAUSES
-returns-then-masks-gt-MOST_CLAUSES c = formula_long c.args.masks.now (omega (arith, c.if-masks-gt-MOST_CLAUSES.true))
+returns-then-masks-gt-MOST_CLAUSES c = formula_long c.args.masks.now (omega arith)
 
 pub loop-i-init : goal.loop-i-init
 loop-i-init c = passed_none _
@@ -56,6 +56,6 @@ returns c =
     let ms = c.args.masks.now in
     let l = c.loop-i in
     let over : length ms ≤ l.i = omega (arith, c.loop-i-test.false) in
-    formula_good ms (omega (arith, c.if-masks-gt-MOST_CLAUSES.false))
+    formula_good ms (omega arith)
     (all_canonical ms l.t l.least l.i l.invariant over) _
     (all_table ms l.t l.least l.i l.invariant over)
