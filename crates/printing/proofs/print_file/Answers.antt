@@ -10,7 +10,6 @@ use Rattle.printing.proofs.print_file.Goals as goal
 long : 2233632 ≡ length {A = ℕ} (replicate 2233632 0)
 long = sym (length-replicate {A = ℕ} 2233632 0)
 
--- src/lib.rt
 pub slice_bounds-write_printed-end : goal.slice_bounds-write_printed-end
 slice_bounds-write_printed-end g c = long
 
