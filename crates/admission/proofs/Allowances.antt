@@ -10,10 +10,9 @@ use lib.Seq.{get_or-set_same, get_or-set_other}
 use borrow.Author.Tests.{eqb-true, eqb-false}
 use Rattle.day_file.specs.declared.Job.{Job}
 use Rattle.admission.specs.declared.Allowance.{Allowance}
-use Rattle.admission.specs.declared.Admission.{Admission}
 use Rattle.admission.specs.Admission.{fits, rest, allowed, left_after}
 use Rattle.admission.proofs.After.{others_rest, own_rest}
-use Rattle.admission.specs.Allowances.{rest_of, allowance_of, admission_of, allowances_of}
+use Rattle.admission.specs.Allowances.{rest_of, allowance_of, callers_after, allowances_of}
 
 -- there are 16, and each holds what its caller has left
 pub record Holds (callers : List Allowance) (left : ℕ → ℕ) : Type 0 where
@@ -38,12 +37,9 @@ module _ {callers : List Allowance} {left : ℕ → ℕ} (w : Holds callers left
   behind c h false e =
       rw (others_rest left j c e, get_or-set_other callers j.caller c rest_then (record { left = 0 }) (λ q. eqb-false j.caller c e (sym q))) (w.each c h)
 
-  -- the job is answered by a
-  module _ {a : Admission} (asked : a ≡ admission_of callers j.caller j.steps) where
-    pub answered : {t : Bool} → a.admitted ≡ t → fits (left j.caller) j.steps ≡ t
-    unfolding admission_of
-    answered e = ap (λ (l : ℕ). fits l j.steps) (sym (w.each j.caller small)) ∙ ap (λ (x : Admission). x.admitted) (sym asked) ∙ e
+  -- so the job is answered as the definition has it
+  pub answered : fits (allowance_of callers j.caller).left j.steps ≡ fits (left j.caller) j.steps
+  answered = ap (λ (l : ℕ). fits l j.steps) (w.each j.caller small)
 
-    pub holds_then : Holds a.callers (left_after left j)
-    unfolding admission_of
-    holds_then = rw asked (record { count = length-set callers j.caller rest_then ∙ w.count; each = λ c h. behind c h (eqb j.caller c) refl })
+  pub holds_then : Holds (callers_after callers j.caller j.steps) (left_after left j)
+  holds_then = record { count = length-set callers j.caller rest_then ∙ w.count; each = λ c h. behind c h (eqb j.caller c) refl }

@@ -3,7 +3,7 @@
 
 ghost use Rattle.std.specs.Prelude.{◌≡◌, ◌<◌};
 ghost use Rattle.admission.specs.Admission.{fits};
-ghost use Rattle.admission.specs.Allowances.{rest_of, admission_of, allowances_of};
+ghost use Rattle.admission.specs.Allowances.{rest_of, allowance_of, callers_after, allowances_of};
 
 // How many callers there are: check 10 lets none above 15 pass.
 pub const CALLERS: usize = 16;
@@ -14,16 +14,11 @@ pub struct Allowance {
     pub left: usize,
 }
 
-// The answer to a job, and the allowance of each caller then, by the caller's number.
-#[derive(Clone, Copy)]
-pub struct Admission {
-    pub admitted: bool,
-    pub callers: [Allowance; CALLERS],
-}
-
 // Takes a job's declared steps down, if there are as many left, and says whether there were.
+#[tactic(auto, unfolding(crate::specs::Admission::fits, crate::specs::Admission::rest))]
 pub fn admit(allowance: &mut Allowance, steps: usize) -> bool
-    ensures { (result ≡ fits allowance.old.left steps) × (allowance.new ≡ rest_of allowance.old steps) }
+    ensures answer { result ≡ fits allowance.old.left steps }
+    ensures taken { allowance.new ≡ rest_of allowance.old steps }
 {
     if allowance.left < steps {
         return false;
@@ -32,19 +27,18 @@ pub fn admit(allowance: &mut Allowance, steps: usize) -> bool
     true
 }
 
-// Answers a job of a caller, whose allowance is lent.
-pub fn admit_caller(mut callers: [Allowance; CALLERS], caller: usize, steps: usize) -> Admission
+// Answers a job of a caller: its own allowance of those lent is taken down, if there are as many steps left.
+pub fn admit_caller(callers: &mut [Allowance; CALLERS], caller: usize, steps: usize) -> bool
     requires { caller < 16 }
-    ensures { result ≡ admission_of callers caller steps }
+    ensures answer { result ≡ fits (allowance_of callers.old caller).left steps }
+    ensures taken { callers.new ≡ callers_after callers.old caller steps }
 {
-    let admitted = admit(&mut callers[caller], steps);
-    Admission { admitted, callers }
+    admit(&mut callers[caller], steps)
 }
 
 // Each caller has the whole limit.
 pub fn full_allowances(limit: usize) -> [Allowance; CALLERS]
     ensures { result ≡ allowances_of limit }
 {
-    let one = Allowance { left: limit };
-    [one; CALLERS]
+    [Allowance { left: limit }; CALLERS]
 }

@@ -1,2 +1,2 @@
+-- The sweep and its marks.
 pub mod Starts
-pub mod Operands

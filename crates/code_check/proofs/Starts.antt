@@ -4,7 +4,7 @@ use mathlib.Core.List.{List, [], ◌∷◌}
 use mathlib.Core.Path.{◌≡◌, refl, sym, ap, ◌∙◌}
 use Prim.Native.Nat.{ℕ, zero, suc, ◌+◌, ◌≤◌, ◌<◌}
 use native.Mathlib.Omega.{arith}
-use lib.Dec.{ltb, eqb}
+use lib.Dec.{leb, ltb, eqb}
 use lib.ListN.{length, get_or, set, replicate, length-set, length-replicate}
 use lib.Seq.{get_or-set_same, get_or-set_other}
 use borrow.Author.Tests.{ltb-true, eqb-true, eqb-false, lt-ltb, le-ltb, le-leb, lt-leb}
@@ -87,24 +87,31 @@ starts_marked code n h ms e =
 
 module _ (l c : ℕ) (code : List ℕ) (i : ℕ) (inside : i < length code) where
   abbrev rest : Bool
-  rest = all (instr_ok l c code) (from code (i + size (byte code i)))
+  rest = all (instr_ok l c code) (from code (after code i))
 
   first : all (instr_ok l c code) (from code i) ≡ (instr_ok l c code i && rest)
-  first = ap (all (instr_ok l c code)) (from_step code i inside)
+  first = rw (after_step code i inside) (ap (all (instr_ok l c code)) (from_step code i inside))
+
+  pub goes_ahead : i < after code i
+  goes_ahead = rw (after_step code i inside) (omega (arith, size_some (byte code i)))
 
   pub unknown_stops : known (byte code i) ≡ false → false ≡ all (instr_ok l c code) (from code i)
   unfolding instr_ok
   unknown_stops k = rw (first, k)
 
   module _ (k : known (byte code i) ≡ true) where
-    pub cut_stops : length code < i + size (byte code i) → false ≡ all (instr_ok l c code) (from code i)
+    pub cut_stops : length code < after code i → false ≡ all (instr_ok l c code) (from code i)
     unfolding instr_ok
-    cut_stops h = rw (first, k, lt-leb (i + size (byte code i)) (length code) h)
+    cut_stops h = rw (first, k, lt-leb (i + size (byte code i)) (length code) (rw (after_step code i inside) at h))
 
-    pub operands_stop : i + size (byte code i) ≤ length code → operands_ok l c (starts code) (fetch code i) ≡ false → false ≡ all (instr_ok l c code) (from code i)
-    unfolding instr_ok
-    operands_stop h o = rw (first, k, le-leb (i + size (byte code i)) (length code) h, o)
+    module _ (h : after code i ≤ length code) where
+      abbrev whole : leb (i + size (byte code i)) (length code) ≡ true
+      whole = le-leb (i + size (byte code i)) (length code) (rw (after_step code i inside) at h)
 
-    pub goes_on : i + size (byte code i) ≤ length code → operands_ok l c (starts code) (fetch code i) ≡ true → all (instr_ok l c code) (from code i) ≡ rest
-    unfolding instr_ok
-    goes_on h o = rw (first, k, le-leb (i + size (byte code i)) (length code) h, o)
+      pub operands_stop : operands_ok l c (starts code) (fetch code i) ≡ false → false ≡ all (instr_ok l c code) (from code i)
+      unfolding instr_ok
+      operands_stop o = rw (first, k, whole, o)
+
+      pub goes_on : operands_ok l c (starts code) (fetch code i) ≡ true → all (instr_ok l c code) (from code i) ≡ rest
+      unfolding instr_ok
+      goes_on o = rw (first, k, whole, o)

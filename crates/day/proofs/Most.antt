@@ -1,4 +1,5 @@
 -- How long the views of a day can get: a job fills no place from its limit on.
+use Rattle.std.specs.Prelude.{None}
 use mathlib.Core.Bool.{Bool, true, false}
 use mathlib.Core.List.{List, [], ◌∷◌}
 use mathlib.Core.Path.{◌≡◌, refl}
@@ -7,7 +8,6 @@ use native.Mathlib.Omega.{arith}
 use lib.ListN.{length, length-append}
 use Rattle.labels.specs.declared.Label.{Label}
 use Rattle.model.specs.State.{Store, at, shown}
-use Rattle.model.specs.declared.Slot.TheVariants.{Empty}
 use Rattle.model.specs.Inputs.{input_slots}
 use Rattle.model.specs.Running.{start_store}
 use Rattle.view.specs.Layout.{records_shown, view, length_over}
@@ -26,13 +26,13 @@ use Rattle.day.proofs.Views.{length_skipped}
 
 -- ── how many records are shown ──
 
-none_shown : (Reads : Label → Bool) (σ : Store) → ((p : ℕ) → at σ p ≡ Empty) → records_shown Reads σ ≡ 0
+none_shown : (Reads : Label → Bool) (σ : Store) → ((p : ℕ) → at σ p ≡ None) → records_shown Reads σ ≡ 0
 unfolding records_shown shown
 none_shown Reads [] e = refl
 none_shown Reads (x ∷ σ) e = let f = none_shown Reads σ (λ p. e (suc p)) in rw (e 0) (omega (arith, f))
 
 -- where no place from k on is taken, at most k
-shown_below : (Reads : Label → Bool) (σ : Store) (k : ℕ) → ((p : ℕ) → k ≤ p → at σ p ≡ Empty) → records_shown Reads σ ≤ k
+shown_below : (Reads : Label → Bool) (σ : Store) (k : ℕ) → ((p : ℕ) → k ≤ p → at σ p ≡ None) → records_shown Reads σ ≤ k
 unfolding records_shown
 shown_below Reads σ zero e = let f = none_shown Reads σ (λ p. e p (omega arith)) in omega arith
 shown_below Reads [] (suc k) e = omega arith

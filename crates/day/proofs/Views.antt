@@ -10,12 +10,11 @@ use borrow.Author.Tests.{le-leb, lt-leb}
 use Rattle.formulas.proofs.Tests.{lt_or_ge}
 use Rattle.labels.specs.declared.Label.{Label}
 use Rattle.model.specs.State.{Store}
+use Rattle.model.specs.FileLabels.{label_in}
 use Rattle.model.specs.Inputs.{inputs, input_slots}
 use Rattle.model.specs.Running.{start_store}
-use Rattle.model.specs.Words.{label_in}
 use Rattle.model.specs.declared.Finished.{Finished}
 use Rattle.machine.specs.Steps.{Finishes}
-use Rattle.store.specs.Slots.{words, slots}
 use Rattle.operands.specs.Program.{count}
 use Rattle.view_fields.specs.Fields.{little_endian}
 use Rattle.view_fields.specs.Writing.{over, numbers}
@@ -24,22 +23,20 @@ use Rattle.view.specs.Layout.{view}
 use Rattle.view.specs.Writing.{finished, shown_in}
 use Rattle.view.proofs.Widths.{length_view, view_finished}
 use Rattle.view.proofs.LengthField.{view_most}
-use Rattle.file_sections.specs.Sections.{inputs_over}
-use Rattle.day_file.specs.declared.Header.{Header}
+use Rattle.file_sections.specs.Sections.{record_bytes_of, inputs_over}
 use Rattle.day_file.specs.declared.Job.{Job}
-use Rattle.day_file.specs.Sections.{day_header, day_inputs}
+use Rattle.day_file.specs.declared.Header.{Header}
 use Rattle.day_file.specs.Parts.{DayLoads}
-use Rattle.day_file.proofs.Findings.{records_in}
+use Rattle.day_file.specs.Sections.{day_header, day_sections, day_inputs}
 use Rattle.admission.specs.declared.Allowance.{Allowance}
-use Rattle.admission.specs.declared.Admission.{Admission}
 use Rattle.admission.specs.Admission.{fits, allowed, left_after, day_admitted}
-use Rattle.admission.specs.Allowances.{admission_of, allowances_of}
+use Rattle.admission.specs.Allowances.{allowance_of, callers_after, allowances_of}
 use Rattle.admission.proofs.Allowances.{Holds, at_first, answered, holds_then}
 use Rattle.day_jobs.specs.JobEnd.{end_job}
 use Rattle.day_jobs.specs.Running.{job_run, store_after, store_after_over, day_turns, day_turns_over}
 use Rattle.day.specs.Views.{skipped_view, skipped_view_over, turn_view, turn_view_over, turn_views}
-use Rattle.day.specs.Parts.{shown_at}
-use Rattle.day_jobs.proofs.Jobs.{records_are, counted, labels_are}
+use Rattle.day.specs.Parts.{shown_at, job_view}
+use Rattle.day_jobs.proofs.Jobs.{counted, labels_are}
 use Rattle.day_jobs.proofs.Turns.{job}
 use Rattle.day.proofs.Turns.{made, made_skipped, made_ran, made_nothing, made_all, Shows, shows_none, shows_more, shows_all}
 
@@ -86,47 +83,55 @@ module _ (Reads : Label → Bool) (bs : List ℕ) where
   abbrev whole : List ℕ
   whole = turn_views Reads (day_turns bs)
 
-  -- the views of the jobs from job k on, with so many steps left to each caller and the records in `store`
-  abbrev left_over : ℕ → (ℕ → ℕ) → List ℕ → List ℕ
-  left_over k left store = made (turn_view Reads) bs (day_header bs).jobs.offset (day_header bs).jobs.count k left (slots store)
+  abbrev first : ℕ
+  first = (day_header bs).jobs.offset
+
+  abbrev n : ℕ
+  n = (day_header bs).jobs.count
+
+  -- the views of the jobs from job k on, with so many steps left to each caller and the records in σ
+  abbrev left_over : ℕ → (ℕ → ℕ) → Store → List ℕ
+  left_over k left σ = made (turn_view Reads) bs first n k left σ
 
   -- job k
   abbrev pub job_at : ℕ → Job
-  job_at k = job bs (day_header bs).jobs.offset (day_header bs).jobs.count k
+  job_at k = job bs first n k
 
   -- the jobs below k have had their turn; the buffer was b₀ and is b, filled up to `at`
-  pub record Served (b₀ b store : List ℕ) (callers : List Allowance) (at k : ℕ) : Type 0 where
+  pub record Served (b₀ b : List ℕ) (σ : Store) (callers : List Allowance) (at k : ℕ) : Type 0 where
     pub left : ℕ → ℕ
     pub allowances : Holds callers left
-    pub some : k ≤ (day_header bs).jobs.count
+    pub some : k ≤ n
     pub few : at ≤ 33998 * k
-    pub size : length store ≡ words
-    pub shows : Shows whole (left_over k left store) b₀ b at
+    pub shows : Shows whole (left_over k left σ) b₀ b at
 
-  pub none_served : (b store : List ℕ) (callers : List Allowance) → callers ≡ allowances_of (day_header bs).steps → length store ≡ words
-      → slots store ≡ start_store (input_slots (day_inputs bs)) → Served b b store callers 0 0
+  pub none_served : (b : List ℕ) (σ : Store) (callers : List Allowance) → callers ≡ allowances_of (day_header bs).steps
+      → σ ≡ start_store (input_slots (day_inputs bs)) → Served b b σ callers 0 0
   unfolding day_turns_over day_admitted
-  none_served b store callers e z s =
+  none_served b σ callers e s =
       record {
         left = allowed (day_header bs).steps;
         allowances = rw e (at_first (day_header bs).steps);
         some = omega arith;
         few = omega arith;
-        size = z;
-        shows = shows_none (rw s (made_all (turn_view Reads) bs (day_header bs).jobs.offset (day_header bs).jobs.count (allowed (day_header bs).steps) (start_store (input_slots (day_inputs bs)))));
+        shows = shows_none (rw s (made_all (turn_view Reads) bs first n (allowed (day_header bs).steps) (start_store (input_slots (day_inputs bs)))));
       }
 
   -- job k, which is j, has its turn, and is answered so
-  module _ {b₀ b store : List ℕ} {callers : List Allowance} {at k : ℕ} (w : Served b₀ b store callers at k) (h : k < (day_header bs).jobs.count) {j : Job} (is : j ≡ job_at k) (small : j.caller < 16)
-      {a : Admission} (asked : a ≡ admission_of callers j.caller j.steps) where
-    fitting : {t : Bool} → a.admitted ≡ t → fits (w.left j.caller) j.steps ≡ t
-    fitting = answered w.allowances j small asked
+  module _ {b₀ b : List ℕ} {σ : Store} {callers : List Allowance} {at k : ℕ} (w : Served b₀ b σ callers at k) (h : k < n)
+      {j : Job} (is : j ≡ job_at k) (small : j.caller < 16)
+      {callers' : List Allowance} (rest : callers' ≡ callers_after callers j.caller j.steps) where
+    abbrev Answered : Bool → Type 0
+    Answered t = fits (allowance_of callers j.caller).left j.steps ≡ t
 
-    allowances_then : Holds a.callers (left_after w.left j)
-    allowances_then = holds_then w.allowances j small asked
+    as_answered : {t : Bool} → Answered t → fits (w.left j.caller) j.steps ≡ t
+    as_answered s = sym (answered w.allowances j small) ∙ s
 
-    pub one_skipped : a.admitted ≡ false → {b' : List ℕ} → b' ≡ shown_at at skipped_view b → length b' ≡ length b
-        → {n : ℕ} → n ≡ 206 → Served b₀ b' store a.callers (at + n) (k + 1)
+    allowances_then : Holds callers' (left_after w.left j)
+    allowances_then = rw rest (holds_then w.allowances j small)
+
+    pub one_skipped : Answered false → {b' : List ℕ} → b' ≡ shown_at at skipped_view b → length b' ≡ length b
+        → {m : ℕ} → m ≡ 206 → Served b₀ b' σ callers' (at + m) (k + 1)
     unfolding turn_view_over
     one_skipped s q z e =
         record {
@@ -134,61 +139,54 @@ module _ (Reads : Label → Bool) (bs : List ℕ) where
           allowances = allowances_then;
           some = omega arith;
           few = omega (arith, w.few);
-          size = w.size;
           shows =
               shows_more w.shows skipped_view
-              (rw is (made_skipped (turn_view Reads) bs (day_header bs).jobs.offset (day_header bs).jobs.count k w.left (slots store) h (rw is at (fitting s)))) (e ∙ sym length_skipped) q z;
+              (rw is (made_skipped (turn_view Reads) bs first n k w.left σ h (rw is at (as_answered s)))) (e ∙ sym length_skipped) q z;
         }
 
     -- its view, and the views behind it
-    view_here : a.admitted ≡ true → (next : List ℕ) → slots next ≡ store_after bs j (slots store)
-        → left_over k w.left store ≡ view Reads j.steps (job_run bs j (slots store)) ++ left_over (k + 1) (left_after w.left j) next
+    view_here : Answered true → left_over k w.left σ ≡ job_view Reads bs j σ ++ left_over (k + 1) (left_after w.left j) (store_after bs j σ)
     unfolding turn_view_over
-    view_here s next then =
-        rw (then, is)
-        (made_ran (turn_view Reads) bs (day_header bs).jobs.offset (day_header bs).jobs.count k w.left (slots store) h (rw is at (fitting s)))
+    view_here s = rw is (made_ran (turn_view Reads) bs first n k w.left σ h (rw is at (as_answered s)))
 
-    pub one_ran : a.admitted ≡ true → {next : List ℕ} → length next ≡ words → slots next ≡ store_after bs j (slots store)
-        → {n : ℕ} → n ≤ 33998 → n ≡ length (view Reads j.steps (job_run bs j (slots store)))
-        → {b' : List ℕ} → b' ≡ shown_at at (view Reads j.steps (job_run bs j (slots store))) b → length b' ≡ length b
-        → Served b₀ b' next a.callers (at + n) (k + 1)
-    one_ran s {next} z then {n} few e q same =
+    pub one_ran : Answered true → {τ : Store} → τ ≡ store_after bs j σ
+        → {m : ℕ} → m ≤ 33998 → m ≡ length (job_view Reads bs j σ)
+        → {b' : List ℕ} → b' ≡ shown_at at (job_view Reads bs j σ) b → length b' ≡ length b
+        → Served b₀ b' τ callers' (at + m) (k + 1)
+    one_ran s then {m} few e q same =
         record {
           left = left_after w.left j;
           allowances = allowances_then;
           some = omega arith;
           few = omega (arith, w.few);
-          size = z;
-          shows = shows_more w.shows (view Reads j.steps (job_run bs j (slots store))) (view_here s next then) e q same;
+          shows = rw then (shows_more w.shows (job_view Reads bs j σ) (view_here s) e q same);
         }
 
-  module _ {b₀ b store : List ℕ} {callers : List Allowance} {at k : ℕ} (w : Served b₀ b store callers at k) where
-    pub all_served : (day_header bs).jobs.count ≤ k → (at ≡ length whole) × (length whole ≤ length b₀ → b ≡ over whole b₀)
-    all_served h =
-        shows_all w.shows (made_nothing (turn_view Reads) bs (day_header bs).jobs.offset (day_header bs).jobs.count k w.left (slots store) h)
+  module _ {b₀ b : List ℕ} {σ : Store} {callers : List Allowance} {at k : ℕ} (w : Served b₀ b σ callers at k) where
+    pub all_served : n ≤ k → (at ≡ length whole) × (length whole ≤ length b₀ → b ≡ over whole b₀)
+    all_served h = shows_all w.shows (made_nothing (turn_view Reads) bs first n k w.left σ h)
 
 -- ── a job that is served ──
 
-module _ (Reads : Label → Bool) (bs : List ℕ) (j : Job) (σ : Store) (f : Finished) (ran : List ℕ) (fin : Finishes f (slots ran) (job_run bs j σ)) where
-  pub served_view : view Reads j.steps (finished f (slots ran)) ≡ view Reads j.steps (job_run bs j σ)
+module _ (Reads : Label → Bool) (bs : List ℕ) (j : Job) (σ : Store) (f : Finished) (τ : Store) (fin : Finishes f τ (job_run bs j σ)) where
+  pub served_view : view Reads j.steps (finished f τ) ≡ job_view Reads bs j σ
   served_view =
       sym (
       view_finished Reads j.steps (job_run bs j σ) f fin.ending fin.label fin.clearance fin.steps fin.next
       ∙ ap (λ (τ : Store). view Reads j.steps (finished f τ)) fin.store
       )
 
-  pub served_store : (c : ℕ) → c ≡ (day_header bs).records.count → (next : List ℕ) → slots next ≡ end_job c (slots ran) → slots next ≡ store_after bs j σ
+  pub served_store : (c : ℕ) → c ≡ (day_header bs).records.count → (next : Store) → next ≡ end_job c τ → next ≡ store_after bs j σ
   unfolding store_after_over
   served_store c e next q = q ∙ rw (e, fin.store)
 
-  pub served_length : (n : ℕ) → n ≡ length (view Reads j.steps (finished f (slots ran))) → n ≤ 33998
-  served_length n e = omega (arith, e, length_view Reads j.steps (finished f (slots ran)), view_most Reads ran)
+  pub served_length : length τ ≤ 256 → (n : ℕ) → n ≡ length (view Reads j.steps (finished f τ)) → n ≤ 33998
+  served_length z n e = omega (arith, e, length_view Reads j.steps (finished f τ), view_most Reads τ z)
 
 -- ── the start ──
 
-module _ (bs : List ℕ) (h : Header) (ws : List ℕ) (w : DayLoads bs h ws) where
-  -- what the input records are placed by
-  pub inputs_placed : (σ : Store) → σ ≡ start_store (input_slots (inputs (label_in ws) (records_in h bs) (count (records_in h bs)) 0))
-      → σ ≡ start_store (input_slots (day_inputs bs))
-  unfolding inputs_over
-  inputs_placed σ e = e ∙ rw (labels_are bs h ws w, counted bs h ws w, records_are bs h ws w, w.numbers)
+-- what the input records are placed by
+pub inputs_placed : {bs : List ℕ} {h : Header} {ls : List Label} → DayLoads bs h ls → {rs : List ℕ} → rs ≡ record_bytes_of (day_sections bs) bs
+    → (σ : Store) → σ ≡ start_store (input_slots (inputs (label_in ls) rs (count rs) 0)) → σ ≡ start_store (input_slots (day_inputs bs))
+unfolding inputs_over
+inputs_placed w are σ e = e ∙ rw (labels_are w, counted w are, are, w.numbers)

@@ -2,25 +2,24 @@
 #![tactic(auto)]
 
 ghost use Rattle.std.specs.Prelude.{◌≡◌, ◌≤◌, ◌<◌, ◌^◌, leb, length};
-ghost use Rattle.model.specs.Words.{file_words};
-ghost use Rattle.store.specs.Slots.{words, slots};
+ghost use Rattle.model.specs.Inputs.{input_slots};
+ghost use Rattle.model.specs.Running.{start_store};
 ghost use Rattle.view_fields.specs.Writing.{over};
-ghost use Rattle.view.specs.Layout.{records_at, longest_view, view as view_of};
-ghost use Rattle.view.specs.Writing.{observes, finished};
+ghost use Rattle.view.specs.Layout.{records_at, longest_view};
+ghost use Rattle.view.specs.Writing.{run_view};
 ghost use Rattle.reading.specs.Answers.{reads};
-ghost use Rattle.day_file.specs.Sections.{day_header, jobs_of_day};
-ghost use Rattle.day_file.specs.Checks.{day_refusal};
-ghost use Rattle.day_file.specs.Parts.{DayLoads};
-ghost use Rattle.day_jobs.specs.Running.{job_run, store_after, day_turns};
-ghost use Rattle.day_jobs.specs.Parts.{Runnable};
-ghost use Rattle.day.specs.Views.{skipped_view, turn_views, day_reading};
-ghost use Rattle.day.specs.Parts.{shown_at, most_bytes};
+ghost use Rattle.reading.specs.Placing.{no_records};
+ghost use Rattle.day_file.specs.Sections.{day_inputs, jobs_of_day};
+ghost use Rattle.day_jobs.specs.Jobs.{left_by};
+ghost use Rattle.day.specs.Views.{skipped_view, day_reading};
+ghost use Rattle.day.specs.Parts.{shown_at, WrittenIfRoom, view_of_job, views_for, most_bytes};
 
-use day_file::{Header, Job};
+use day_file::Day;
+use day_jobs::DayJob;
+use file_sections::Refusal;
 use labels::Label;
-use model::Finished;
-use store::STORE;
-use view::{Answer, FINAL, RECORDS, RESULT, SHOWN};
+use store::{PLACES, Store};
+use view::{FINAL, RECORDS, RESULT, Run, SHOWN};
 use view_fields::RECORD;
 
 // ---- the views
@@ -38,10 +37,12 @@ pub fn write_skipped(out: &mut [u8])
     view_fields::write_zeros(FINAL, &mut out[RESULT..]);
 }
 
-// Writes the view of a skipped job from `at` on, if it fits there, and gives its length.
+// Writes the view of a skipped job from `at` on, if it fits there, and gives its length. `at` and `out` go side by side: a struct
+// of both would be lent again at each call.
 fn show_skipped(at: usize, out: &mut [u8]) -> usize
     requires { at < 2 ^ 32 }
-    ensures { (result ≡ records_at) × (out.new ≡ shown_at at skipped_view out.old) }
+    ensures long { result ≡ records_at }
+    ensures written { out.new ≡ shown_at at skipped_view out.old }
 {
     if at + RECORDS <= out.len() {
         write_skipped(&mut out[at..]);
@@ -50,71 +51,61 @@ fn show_skipped(at: usize, out: &mut [u8]) -> usize
 }
 
 // The same of a job that was run.
-fn show_run(
-    reader: Label,
-    steps: usize,
-    finish: Finished,
-    store: &[u64],
-    at: usize,
-    out: &mut [u8],
-) -> usize
-    requires { (at < 2 ^ 32) × (length store.now ≡ words) }
-    ensures { (result ≡ length (view_of (observes reader) steps (finished finish (slots store.now)))) × (out.new ≡ shown_at at (view_of (observes reader) steps (finished finish (slots store.now))) out.old) }
+fn show_run(reader: Label, run: Run, at: usize, out: &mut [u8]) -> usize
+    requires { at < 2 ^ 32 }
+    ensures long { result ≡ length (run_view reader run.entry) }
+    ensures written { out.new ≡ shown_at at (run_view reader run.entry) out.old }
 {
     if out.len() < at {
-        return view::view_length(reader, store);
+        return view::view_length(reader, run.store);
     }
-    view::show_view(reader, steps, finish, store, &mut out[at..])
+    view::show_view(reader, run, &mut out[at..])
 }
 
 // Runs a job that is admitted, shows it and ends it, and gives the length of its view.
-fn serve_job(
-    file: &[u8],
-    h: Header,
-    labels: &[u64],
-    job: Job,
-    reader: Label,
-    store: &mut [u64],
-    at: usize,
-    out: &mut [u8],
-) -> usize
-    requires { DayLoads file.now h labels.now × (length labels.now ≡ file_words) × (length store.old ≡ words) × Runnable h job file.now × (at < 2 ^ 32) }
-    ensures { (result ≤ longest_view) × (result ≡ length (view_of (observes reader) job.steps (job_run file.now job (slots store.old)))) × (slots store.new ≡ store_after file.now job (slots store.old)) × (out.new ≡ shown_at at (view_of (observes reader) job.steps (job_run file.now job (slots store.old))) out.old) }
+fn serve_job(job: DayJob, reader: Label, store: &mut Store, at: usize, out: &mut [u8]) -> usize
+    requires { at < 2 ^ 32 }
+    ensures most { result ≤ longest_view }
+    ensures long { result ≡ length (view_of_job reader job.entry store.old) }
+    ensures ended { store.new ≡ left_by job.entry store.old }
+    ensures written { out.new ≡ shown_at at (view_of_job reader job.entry store.old) out.old }
 {
-    let records = h.records;
-    let steps = job.steps;
-    let finish = day_jobs::run_job(file, h, labels, job, store);
-    let n = show_run(reader, steps, finish, store, at, out);
-    day_jobs::end_job(store, records.count);
+    let finish = day_jobs::run_job(job, store);
+    let run = Run {
+        steps: job.numbers.steps,
+        finish,
+        store,
+    };
+    let n = show_run(reader, run, at, out);
+    day_jobs::end_job(store, job.day.header.records.count);
     n
+}
+
+// Puts the input records of a day into a store that has none.
+pub fn place_inputs(day: Day, store: &mut Store)
+    requires { store.old ≡ no_records }
+    ensures { store.new ≡ start_store (input_slots (day_inputs day.entry.file.now)) }
+{
+    reading::place_inputs(day_jobs::records_of(day), day.labels, store);
 }
 
 // Runs the jobs one behind the other, each on the store that the one before left, and gives the length of their views. The
 // views are written if there is room for them all.
-fn write_views(file: &[u8], h: Header, labels: &[u64], reader: Label, out: &mut [u8]) -> usize
-    requires { DayLoads file.now h labels.now × (length labels.now ≡ file_words) }
-    ensures { (result ≡ length (turn_views (observes reader) (day_turns file.now))) × (length (turn_views (observes reader) (day_turns file.now)) ≤ length out.old → out.new ≡ over (turn_views (observes reader) (day_turns file.now)) out.old) }
+fn write_views(day: Day, reader: Label, out: &mut [u8]) -> usize
+    ensures long { result ≡ length (views_for reader day.entry.file.now) }
+    ensures written { WrittenIfRoom (views_for reader day.entry.file.now) out.old out.new }
 {
-    let records = h.records;
-    let jobs = h.jobs;
-    let a = records.offset;
-    let b = jobs.offset;
-    let count = jobs.count;
-    let mut store = [0u64; STORE];
-    reading::place_inputs(&file[a..b], labels, &mut store);
-    let mut callers = admission::full_allowances(h.steps);
+    let mut store = [None; PLACES];
+    place_inputs(day, &mut store);
+    let mut callers = admission::full_allowances(day.header.steps);
     let mut at = 0;
-    let mut k = 0;
-    while k < count {
-        let job = day_file::job_at(file, b + 12 * k);
-        let answer = admission::admit_caller(callers, job.caller, job.steps);
-        callers = answer.callers;
-        if answer.admitted {
-            at += serve_job(file, h, labels, job, reader, &mut store, at, out);
+    for k in 0..day.header.jobs.count {
+        let job = day_jobs::job_of(day, k);
+        if admission::admit_caller(&mut callers, job.numbers.caller, job.numbers.steps) {
+            at += serve_job(job, reader, &mut store, at, out);
         } else {
             at += show_skipped(at, out);
         }
-        k += 1;
     }
     at
 }
@@ -122,62 +113,41 @@ fn write_views(file: &[u8], h: Header, labels: &[u64], reader: Label, out: &mut 
 // ---- a read
 
 // The most bytes that the views can have.
-fn most_bytes(file: &[u8], h: Header) -> usize
-    requires { (h ≡ day_header file.now) × (day_refusal file.now ≡ 0) }
-    ensures { result ≡ most_bytes (jobs_of_day file.now) }
+fn most_bytes(day: Day) -> usize
+    ensures { result ≡ most_bytes (jobs_of_day day.entry.file.now) }
 {
-    let jobs = h.jobs;
-    let first = jobs.offset;
-    let count = jobs.count;
     let mut n = 0;
-    let mut k: usize = 0;
-    while k < count {
-        let job = day_file::job_at(file, first + 12 * k);
-        n += RECORDS + RECORD * job.places;
-        k += 1;
+    for j in 0..day.header.jobs.count {
+        n += RECORDS + RECORD * day_jobs::job_of(day, j).numbers.places;
     }
     n
 }
 
 // The length of the views: the day is run, and nothing is kept of it.
-fn views_length(file: &[u8], h: Header, labels: &[u64], reader: Label) -> usize
-    requires { DayLoads file.now h labels.now × (length labels.now ≡ file_words) }
-    ensures { result ≡ length (turn_views (observes reader) (day_turns file.now)) }
+fn views_length(day: Day, reader: Label) -> usize
+    ensures { result ≡ length (views_for reader day.entry.file.now) }
 {
-    let mut none = [0u8; 1];
-    write_views(file, h, labels, reader, &mut none)
+    write_views(day, reader, &mut [])
 }
 
 // Whether a buffer of `room` bytes holds the views. One that holds the most that they can have does; for any other the day
 // is run.
-fn views_fit(file: &[u8], h: Header, labels: &[u64], reader: Label, room: usize) -> bool
-    requires { DayLoads file.now h labels.now × (length labels.now ≡ file_words) }
-    ensures { result ≡ leb (length (turn_views (observes reader) (day_turns file.now))) room }
+fn views_fit(day: Day, reader: Label, room: usize) -> bool
+    ensures { result ≡ leb (length (views_for reader day.entry.file.now)) room }
 {
-    if most_bytes(file, h) <= room {
-        return true;
-    }
-    views_length(file, h, labels, reader) <= room
+    most_bytes(day) <= room || views_length(day, reader) <= room
 }
 
 // Checks 8 and 9, of a day that loads: 9 before the first byte is written.
-pub fn read_loaded(
-    file: &[u8],
-    h: Header,
-    labels: &[u64],
-    reader: usize,
-    buffer: &mut [u8],
-) -> Answer
-    requires { DayLoads file.now h labels.now × (length labels.now ≡ file_words) }
-    ensures { reads result buffer.new ≡ day_reading file.now reader buffer.old }
+pub fn read_loaded(day: Day, reader: usize, buffer: &mut [u8]) -> Result<usize, Refusal>
+    ensures { reads result buffer.new ≡ day_reading day.entry.file.now reader buffer.old }
 {
-    let listed = h.labels;
-    if listed.count <= reader {
-        return Answer::Refused(8);
+    if day.header.labels.count <= reader {
+        return Err(Refusal::Reader);
     }
-    let label = operands::label_at(labels, reader);
-    if !views_fit(file, h, labels, label, buffer.len()) {
-        return Answer::Refused(9);
+    let label = operands::label_at(day.labels, reader);
+    if !views_fit(day, label, buffer.len()) {
+        return Err(Refusal::Room);
     }
-    Answer::Viewed(write_views(file, h, labels, label, buffer))
+    Ok(write_views(day, label, buffer))
 }

@@ -1,25 +1,28 @@
 -- The answer and its number.
-use mathlib.Core.Bool.{true}
+use mathlib.Core.Bool.{true, false}
 use mathlib.Core.List.{List}
 use mathlib.Core.Logic.{◌≢◌}
-use mathlib.Core.Path.{◌≡◌, refl, ap, sym, ◌∙◌, fun_ext}
-use Prim.Native.Nat.{ℕ, zero, suc, ◌+◌, ◌*◌, ◌≤◌, ◌<◌}
+use mathlib.Core.Path.{◌≡◌, fun_ext}
+use Prim.Native.Nat.{ℕ, suc, ◌+◌, ◌*◌, ◌≤◌, ◌<◌}
 use native.Mathlib.Omega.{arith}
 use borrow.Author.Tests.{leb-true}
 use lib.Dec.{eqb-suc-zero}
 use lib.ListN.{length}
-use Rattle.model.specs.Words.{label_in, file_words}
+use Rattle.std.specs.Prelude.{Ok, Err}
+use Rattle.labels.specs.declared.Label.{Label}
+use Rattle.model.specs.FileLabels.{label_in}
 use Rattle.file_sections.specs.Sections.{or_none}
-use Rattle.file_sections.specs.Words.{label_words}
+use Rattle.file_sections.specs.Labels.{label_array}
+use Rattle.file_sections.specs.Refusals.{refusal_number, refusal_of}
+use Rattle.file_sections.specs.declared.Refusal.{Refusal}
 use Rattle.file_sections.proofs.Tests.{every_each}
-use Rattle.file_sections.proofs.Labels.{words_are_labels, length_lent}
+use Rattle.file_sections.proofs.Arrays.{array_is_labels}
+use Rattle.file_sections.proofs.Refusals.{answered, refused, told, answer-number as told-answer}
 use Rattle.day_file.specs.Sections.{day_header, day_sections, day_labels, day_label, jobs_of_day, job_from}
 use Rattle.day_file.specs.Checks.{size_ok, passes1, passes2, passes3, passes4, passes10, passes10_over, passes6, passes7, job_ok, jobs_ok, span_ok, check, day_refusal, day_refusal_over}
-use Rattle.day_file.specs.Loading.{answer, loaded_day, day_words}
+use Rattle.day_file.specs.Loading.{loaded_day, labels_of_day}
 use Rattle.day_file.specs.Parts.{DayLoads}
 use Rattle.day_file.specs.declared.Header.{Header}
-use Rattle.day_file.specs.declared.Loaded.{Loaded}
-use Rattle.day_file.specs.declared.Loaded.TheVariants.{Refused, Day}
 use Rattle.day_file.proofs.Limits.{Counted, counted, Placed, placed, Fits, fits}
 use Rattle.day_file.proofs.Tests.{none_stops, check_most, check_not, AllJobs, all_hold, all_map, each_job}
 
@@ -68,6 +71,47 @@ module _ (bs : List ℕ) where
       let n2 : from2 ≢ 5 = check_not 5 2 (passes2 bs) from3 (λ e. omega arith) n3 in
       check_not 5 1 (passes1 bs) from2 (λ e. omega arith) n2
 
+-- ── the first check that does not pass stops the day ──
+
+module _ (bs : List ℕ) where
+  pub stops1 : passes1 bs ≡ false → day_refusal bs ≡ 1
+  unfolding day_refusal_over
+  stops1 e = rw e
+
+  module _ (p1 : passes1 bs ≡ true) where
+    pub stops2 : passes2 bs ≡ false → day_refusal bs ≡ 2
+    unfolding day_refusal_over
+    stops2 e = rw (p1, e)
+
+    module _ (p2 : passes2 bs ≡ true) where
+      pub stops3 : passes3 bs ≡ false → day_refusal bs ≡ 3
+      unfolding day_refusal_over
+      stops3 e = rw (p1, p2, e)
+
+      module _ (p3 : passes3 bs ≡ true) where
+        pub stops4 : passes4 bs ≡ false → day_refusal bs ≡ 4
+        unfolding day_refusal_over
+        stops4 e = rw (p1, p2, p3, e)
+
+        module _ (p4 : passes4 bs ≡ true) where
+          pub stops10 : passes10 bs ≡ false → day_refusal bs ≡ 10
+          unfolding day_refusal_over
+          stops10 e = rw (p1, p2, p3, p4, e)
+
+          module _ (p10 : passes10 bs ≡ true) where
+            pub stops6 : passes6 bs ≡ false → day_refusal bs ≡ 6
+            unfolding day_refusal_over
+            stops6 e = rw (p1, p2, p3, p4, p10, e)
+
+            module _ (p6 : passes6 bs ≡ true) where
+              pub stops7 : passes7 bs ≡ false → day_refusal bs ≡ 7
+              unfolding day_refusal_over
+              stops7 e = rw (p1, p2, p3, p4, p10, p6, e)
+
+              pub stops_none : passes7 bs ≡ true → day_refusal bs ≡ 0
+              unfolding day_refusal_over
+              stops_none e = rw (p1, p2, p3, p4, p10, p6, e)
+
 -- ── what the checks tell ──
 
 module _ (bs : List ℕ) where
@@ -80,10 +124,6 @@ module _ (bs : List ℕ) where
   passing-fit e =
       let p = every_each _ e in
       all_map (fits (day_header bs) (day_label bs)) (jobs_of_day bs) (all_hold (job_ok (day_header bs) (day_label bs)) (jobs_of_day bs) p.1.1.0)
-
-  -- the words of at most 32 labels hold them, at any index
-  pub labels_in : (day_header bs).labels.count ≤ 32 → label_in (label_words (or_none (day_labels bs))) ≡ day_label bs
-  labels_in few = fun_ext (words_are_labels (day_sections bs) bs few)
 
 -- A day that is not refused passes each check.
 pub record Accepted (bs : List ℕ) : Type 0 where
@@ -138,59 +178,38 @@ module _ (bs : List ℕ) (none : day_refusal bs ≡ 0) where
   pub span-ok : (k : ℕ) → k < (day_header bs).jobs.count → span_ok bs (job_from bs ((day_header bs).jobs.offset + 12 * k)) ≡ true
   span-ok k small = each_job (λ j. span_ok bs j ≡ true) bs _ _ k small spans_fit
 
-  pub day-labels : label_in (label_words (or_none (day_labels bs))) ≡ day_label bs
-  day-labels = labels_in bs within-limits.labels
+-- the labels of a day, at any index
+pub day-labels : (bs : List ℕ) → label_in (label_array (or_none (day_labels bs))) ≡ day_label bs
+day-labels bs = fun_ext (array_is_labels (day_sections bs) bs)
 
 -- ── the answer ──
 
--- the number of an answer, 0 where nothing stops the day
-abbrev number_of : Loaded → ℕ
-number_of (Refused n) = n
-number_of (Day h) = 0
-
-abbrev is_refused : Loaded → ℕ
-is_refused (Refused n) = 1
-is_refused (Day h) = 0
-
-answer-number : (n : ℕ) (h : Header) → number_of (answer n h) ≡ n
-answer-number zero h = refl
-answer-number (suc n) h = refl
-
-refused-some : (n : ℕ) (h : Header) → is_refused (answer n h) ≡ 1 → 1 ≤ n
-refused-some zero h e = absurd (omega arith)
-refused-some (suc n) h e = omega arith
-
 module _ (bs : List ℕ) where
-  pub refused-number : (n : ℕ) → Refused n ≡ loaded_day bs → (n ≡ day_refusal bs) × (1 ≤ n) × (n ≤ 10)
+  -- its number is that of the first check that stops the day, one of 1 to 4, 10, 6 and 7
+  -- the answer tells the number of the first check that applies, or 0
+  pub answer-number : told (loaded_day bs) ≡ day_refusal bs
   unfolding loaded_day
-  refused-number n e =
-      let same : n ≡ day_refusal bs = ap number_of e ∙ answer-number (day_refusal bs) (day_header bs) in
-      let some = refused-some (day_refusal bs) (day_header bs) (sym (ap is_refused e)) in
-      (same, omega (arith, same, some), omega (arith, same, refusal-most bs))
+  answer-number = told-answer (day_refusal bs) (day_header bs) (omega (arith, refusal-most bs))
 
-  pub day-number : (h : Header) → Day h ≡ loaded_day bs → day_refusal bs ≡ 0
+  pub refused-number : (r : Refusal) → Err r ≡ loaded_day bs → (refusal_number r ≡ day_refusal bs) × (1 ≤ refusal_number r) × (refusal_number r ≤ 10)
   unfolding loaded_day
-  day-number h e = sym (ap number_of e ∙ answer-number (day_refusal bs) (day_header bs))
+  refused-number r e =
+      let most = refusal-most bs in
+      let n = refused (day_refusal bs) (day_header bs) (omega arith) e in
+      (n.0, omega arith, omega arith)
 
-  pub day-header : (h : Header) → Day h ≡ loaded_day bs → h ≡ day_header bs
+  -- what the answer of a day that loads, and the labels, tell
+  pub day-loads : (h : Header) (ls was : List Label) → Ok h ≡ loaded_day bs → ls ≡ labels_of_day bs was → DayLoads bs h ls
   unfolding loaded_day
-  day-header h e = let same : Day h ≡ Day (day_header bs) = e ∙ ap (λ (n : ℕ). answer n (day_header bs)) (day-number h e) in cc
+  day-loads h ls was e l =
+      let n = answered (day_refusal bs) e in
+      record { none = n.0; numbers = n.1; labels = rw n.0 at l }
 
-  -- what the answer of a day that loads, and the words, tell
-  pub day-loads : (h : Header) (ws was : List ℕ) → Day h ≡ loaded_day bs → ws ≡ day_words bs was → DayLoads bs h ws
-  day-loads h ws was e w =
-      let none = day-number h e in
-      record { none = none; numbers = day-header h e; labels = rw none at w }
-
-  -- the words are as many as before
-  pub words-lent : (was ws : List ℕ) → length was ≡ file_words → ws ≡ day_words bs was → length ws ≡ file_words
-  words-lent = length_lent (day_refusal bs) (day_labels bs)
-
-  -- what a refusal, and what a day that loads, promise of the answer and of the words
-  pub refuses : (ws : List ℕ) (n : ℕ) → day_refusal bs ≡ suc n → (Refused (suc n) ≡ loaded_day bs) × (ws ≡ day_words bs ws)
+  -- what a refusal, and what a day that loads, promise of the answer and of the labels
+  pub refuses : (ls : List Label) (n : ℕ) → day_refusal bs ≡ suc n → (Err (refusal_of (suc n)) ≡ loaded_day bs) × (ls ≡ labels_of_day bs ls)
   unfolding loaded_day
-  refuses ws n e = (rw e, rw (e, eqb-suc-zero n))
+  refuses ls n e = (rw e, rw (e, eqb-suc-zero n))
 
-  pub loads : (ws : List ℕ) → day_refusal bs ≡ 0 → (Day (day_header bs) ≡ loaded_day bs) × (label_words (or_none (day_labels bs)) ≡ day_words bs ws)
+  pub loads : (ls : List Label) → day_refusal bs ≡ 0 → (Ok (day_header bs) ≡ loaded_day bs) × (label_array (or_none (day_labels bs)) ≡ labels_of_day bs ls)
   unfolding loaded_day
-  loads ws e = (rw e, rw e)
+  loads ls e = (rw e, rw e)

@@ -1,5 +1,5 @@
 -- What each function finds is what its check says of the day: the function is given a header and parts of the file.
-use mathlib.Core.Bool.{Bool, true}
+use mathlib.Core.Bool.{Bool, true, false}
 use mathlib.Core.List.{List}
 use mathlib.Core.Path.{◌≡◌, sym, ap, ap₂, subst, ◌∙◌}
 use Prim.Native.Nat.{ℕ, ◌+◌, ◌-◌, ◌*◌, ◌≤◌, ◌<◌}
@@ -7,19 +7,20 @@ use native.Mathlib.Omega.{arith}
 use lib.ListN.{length, take, drop}
 use lib.Seq.{drop-drop}
 use Rattle.labels.specs.declared.Label.{Label}
-use Rattle.model.specs.Words.{label_in}
+use Rattle.std.specs.Prelude.{Option, Some, None}
+use Rattle.model.specs.FileLabels.{label_in}
 use Rattle.code_check.specs.Sweep.{code_ok}
-use Rattle.file_sections.specs.Sections.{read_labels, label_bytes_of, record_bytes_of, labels_over}
-use Rattle.file_sections.specs.Checks.{records_ok}
-use Rattle.file_sections.specs.Words.{labels_found}
-use Rattle.file_sections.specs.declared.FileLabels.{FileLabels}
+use Rattle.file_sections.specs.Sections.{read_labels, or_none, label_bytes_of, record_bytes_of, labels_over}
+use Rattle.file_sections.specs.Checks.{size_within, counts_within, records_ok}
+use Rattle.file_sections.specs.Labels.{label_array, labels_found}
+use Rattle.file_sections.proofs.Arrays.{not_found, found}
 use Rattle.day_file.specs.Sections.{day_header, day_sections, day_labels, day_label, job_from, jobs_from, span}
 use Rattle.day_file.specs.Checks.{size_ok, counts_ok, offsets_ok, jobs_ok, span_ok, passes1, passes2, passes3, passes4, passes4_over, passes10, passes10_over, passes6, passes7}
 use Rattle.day_file.specs.declared.Header.{Header}
 use Rattle.day_file.specs.declared.Job.{Job}
 use Rattle.day_file.proofs.Limits.{counted, placed, Fits}
 use Rattle.day_file.proofs.Tests.{each_job}
-use Rattle.day_file.proofs.Answers.{labels_in, passing-fit}
+use Rattle.day_file.proofs.Answers.{day-labels, passing-fit}
 use Rattle.day_file.proofs.Turns.{all_pass}
 
 -- the parts that the code takes of a file, where the header says
@@ -35,22 +36,26 @@ pub record Inside (bs : List ℕ) (h : Header) (j : Job) : Type 0 where
   pub short : j.length ≤ 4096
 
 module _ (bs : List ℕ) where
-  pub finds1 : {b : Bool} → size_ok (length bs) ≡ b → passes1 bs ≡ b
-  unfolding passes1
+  pub finds1 : {b : Bool} → size_within 20 (length bs) ≡ b → passes1 bs ≡ b
+  unfolding passes1 size_ok
   finds1 e = e
 
   module _ (h : Header) (is : h ≡ day_header bs) where
-    pub finds2 : {b : Bool} → counts_ok h ≡ b → passes2 bs ≡ b
+    pub counts_found : {b : Bool} → counts_within h.labels h.records h.code ≡ b → counts_ok h ≡ b
+    unfolding counts_ok
+    counts_found e = e
+
+    pub finds2 : {b : Bool} → counts_within h.labels h.records h.code ≡ b → passes2 bs ≡ b
     unfolding passes2
-    finds2 e = ap counts_ok (sym is) ∙ e
+    finds2 e = ap counts_ok (sym is) ∙ counts_found e
 
     pub finds3 : {b : Bool} → offsets_ok h (length bs) ≡ b → passes3 bs ≡ b
     unfolding passes3
     finds3 e = ap (λ (g : Header). offsets_ok g (length bs)) (sym is) ∙ e
 
-    pub day_table : (t : FileLabels) → t ≡ labels_found (read_labels h.labels.count (take (h.records.offset - 20) (drop 20 bs))) → t ≡ labels_found (day_labels bs)
+    pub day_table : (o : Option (List Label)) → o ≡ labels_found (read_labels h.labels.count (take (h.records.offset - 20) (drop 20 bs))) → o ≡ labels_found (day_labels bs)
     unfolding labels_over label_bytes_of
-    day_table t e = e ∙ ap (λ (g : Header). labels_found (read_labels g.labels.count (take (g.records.offset - 20) (drop 20 bs)))) is
+    day_table o e = e ∙ ap (λ (g : Header). labels_found (read_labels g.labels.count (take (g.records.offset - 20) (drop 20 bs)))) is
 
     pub records-in : h.jobs.offset ≡ h.records.offset + 6 * h.records.count → records_in h bs ≡ record_bytes_of (day_sections bs) bs
     unfolding record_bytes_of
@@ -91,15 +96,21 @@ module _ (bs : List ℕ) where
         let p = placed (day_header bs) (length bs) e3 in
         record { ends = omega (arith, f.inside, p.whole); short = omega (arith, f.inside, c.code) })
 
-  module _ (t : FileLabels) (is : t ≡ labels_found (day_labels bs)) where
-    pub finds4 : {b : Bool} → t.whole ≡ b → passes4 bs ≡ b
-    unfolding passes4_over
-    finds4 e = sym (ap (λ (u : FileLabels). u.whole) is) ∙ e
+  pub finds-none : None ≡ labels_found (day_labels bs) → passes4 bs ≡ false
+  unfolding passes4_over
+  finds-none e = not_found (day_labels bs) e
 
-    pub finds10 : (h : Header) → h ≡ day_header bs → h.labels.count ≤ 32 → {b : Bool}
-        → jobs_ok h (label_in t.words) (jobs_from bs h.jobs.count h.jobs.offset) ≡ b → passes10 bs ≡ b
+  module _ (ls : List Label) (is : Some ls ≡ labels_found (day_labels bs)) where
+    pub finds4 : passes4 bs ≡ true
+    unfolding passes4_over
+    finds4 = (found (day_labels bs) is).0
+
+    pub labels_are : ls ≡ label_array (or_none (day_labels bs))
+    labels_are = (found (day_labels bs) is).1
+
+    pub finds10 : (h : Header) → h ≡ day_header bs → {b : Bool}
+        → jobs_ok h (label_in ls) (jobs_from bs h.jobs.count h.jobs.offset) ≡ b → passes10 bs ≡ b
     unfolding passes10_over
-    finds10 h same few r =
-        let listed = subst (λ (g : Header). g.labels.count ≤ 32) same few in
-        let ls : day_label bs ≡ label_in t.words = sym (ap (λ (u : FileLabels). label_in u.words) is ∙ labels_in bs listed) in
-        ap₂ (λ (g : Header) (f : ℕ → Label). jobs_ok g f (jobs_from bs g.jobs.count g.jobs.offset)) (sym same) ls ∙ r
+    finds10 h same r =
+        let at : day_label bs ≡ label_in ls = sym (ap label_in labels_are ∙ day-labels bs) in
+        ap₂ (λ (g : Header) (f : ℕ → Label). jobs_ok g f (jobs_from bs g.jobs.count g.jobs.offset)) (sym same) at ∙ r

@@ -12,17 +12,6 @@ use Rattle.day_file.specs.declared.Job.{Job}
 
 -- ── the checks in their order ──
 
--- A check, its finding and what those behind it come to give the number r: if it passes theirs, else its own.
-pub record Comes (n : ℕ) (b : Bool) (behind r : ℕ) : Type 0 where
-  pub to : check n b behind ≡ r
-
-module _ {n : ℕ} {b : Bool} {behind r : ℕ} where
-  pub past : b ≡ true → Comes n b behind r → behind ≡ r
-  past t c = rw t at c.to
-
-  pub stopped : b ≡ false → Comes n b behind r → r ≡ n
-  stopped f c = sym (rw f at c.to)
-
 -- where the number is 0 the first passes, and those behind it come to 0 too
 pub none_stops : (n : ℕ) (b : Bool) (behind : ℕ) → check (suc n) b behind ≡ 0 → (b ≡ true) × (behind ≡ 0)
 none_stops n true behind e = (refl, e)

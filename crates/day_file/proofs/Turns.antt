@@ -1,10 +1,15 @@
--- A loop over the jobs: what the jobs from the i-th on say of all.
-use mathlib.Core.Bool.{Bool, true, false}
+-- The jobs, one after the other: what the jobs from the i-th on say of all.
+use mathlib.Core.Bool.{Bool, true, false, and-true, and-false}
 use mathlib.Core.List.{List, map}
 use mathlib.Core.Path.{◌≡◌, ap, ap₂, ◌∙◌}
 use Prim.Native.Nat.{ℕ, suc, ◌+◌, ◌-◌, ◌*◌, ◌≤◌, ◌<◌}
 use native.Mathlib.Omega.{arith}
+use lib.Dec.{leb}
+use borrow.Author.Tests.{le-leb, lt-leb}
+use Rattle.labels.specs.declared.Label.{Label}
 use Rattle.file_sections.specs.Checks.{every}
+use Rattle.day_file.specs.Checks.{job_ok, jobs_ok}
+use Rattle.day_file.specs.declared.Header.{Header}
 use Rattle.day_file.specs.Sections.{job_from, jobs_from}
 use Rattle.day_file.specs.declared.Job.{Job}
 
@@ -46,3 +51,19 @@ module _ {test : Job → Bool} {bs : List ℕ} {n at i : ℕ} (l : Left test bs 
   pub none_left : n ≤ i → all_pass test bs n at ≡ true
   unfolding every jobs_from
   none_left h = let e : n - i ≡ 0 = omega arith in l.decide ∙ ap (λ (k : ℕ). all_pass test bs k (at + 12 * i)) e
+
+-- ── check 10 ──
+
+module _ (h : Header) (ls : ℕ → Label) (js : List Job) where
+  pub too_few : h.jobs.count < 1 → jobs_ok h ls js ≡ false
+  unfolding jobs_ok every
+  too_few few = rw (lt-leb 1 h.jobs.count few)
+
+  pub too_many : 16 < h.jobs.count → jobs_ok h ls js ≡ false
+  unfolding jobs_ok every
+  too_many many = rw (lt-leb h.jobs.count 16 many, and-false (leb 1 h.jobs.count))
+
+  -- with 1 to 16 jobs they decide
+  pub few_enough : 1 ≤ h.jobs.count → h.jobs.count ≤ 16 → jobs_ok h ls js ≡ every (map (job_ok h ls) js)
+  unfolding jobs_ok every
+  few_enough some few = rw (le-leb 1 h.jobs.count some, le-leb h.jobs.count 16 few) (and-true (every (map (job_ok h ls) js)))

@@ -4,7 +4,7 @@ use Rattle.std.specs.Prelude.{Bool, cond, List, [], ◌∷◌, map, ℕ, ◌+◌
 use Rattle.labels.specs.Tables.{principals}
 use Rattle.labels.specs.Order.{flows}
 use Rattle.labels.specs.declared.Label.{Label}
-use Rattle.file_sections.specs.Checks.{every, labels_pass, records_pass}
+use Rattle.file_sections.specs.Checks.{every, size_within, counts_within, labels_pass, records_pass}
 use Rattle.code_check.specs.Sweep.{code_ok}
 use Rattle.day_file.specs.Sections.{day_header, day_sections, day_label_over, jobs_of_day, span}
 use Rattle.day_file.specs.declared.Header.{Header}
@@ -12,15 +12,12 @@ use Rattle.day_file.specs.declared.Job.{Job}
 
 -- 1: "under 20 or over 65,535"
 unfoldable pub size_ok : ℕ → Bool
-size_ok n = every (leb 20 n ∷ leb n 65535 ∷ [])
+size_ok n = size_within 20 n
 
 -- 2: a count outside its limits, which are those of a plain file. The number of jobs is left to 10, and the day's steps
 -- are any 32-bit number.
 unfoldable pub counts_ok : Header → Bool
-counts_ok h =
-    every
-    (leb 2 h.labels.count ∷ leb h.labels.count 32 ∷ leb h.records.count 64 ∷ leb 1 h.code.count
-    ∷ leb h.code.count 4096 ∷ [])
+counts_ok h = counts_within h.labels h.records h.code
 
 -- 3: the sections follow each other from byte 20 to the file's end. The sums are exact, not modulo 2 ^ 16.
 unfoldable pub offsets_ok : Header → ℕ → Bool

@@ -1,7 +1,6 @@
 -- Request T-01: "A day file has ten 16-bit header numbers: L and offset, C and offset, jobs J and offset, code length and
 -- offset, and the day's steps as a 32-bit number in the last two. Sections follow in this order without gaps, labels at 20."
-use Rattle.std.specs.Prelude.{List, [], ◌∷◌, ℕ, zero, suc, ◌+◌, take, drop}
-use Rattle.std.proofs.Math.Option.{Option}
+use Rattle.std.specs.Prelude.{List, [], ◌∷◌, ℕ, zero, suc, ◌+◌, take, drop, Option}
 use Rattle.labels.specs.Tables.{principals}
 use Rattle.labels.specs.declared.Label.{Label}
 use Rattle.model.specs.Decoding.{byte, u16, u32}

@@ -1,13 +1,12 @@
 -- The store between jobs: no place from C on is taken.
+use Rattle.std.specs.Prelude.{None, Some}
 use mathlib.Core.List.{List}
 use mathlib.Core.Path.{◌≡◌, refl, sym, ap, ◌∙◌}
 use Prim.Native.Nat.{ℕ, ◌≤◌, ◌<◌}
 use native.Mathlib.Omega.{arith}
 use native.Mathlib.Decide.{dec_lt}
 use lib.ListN.{length, length-append, length-replicate, get_or-eq_default}
-use Rattle.model.specs.State.{Store, at}
-use Rattle.model.specs.declared.Slot.{Slot}
-use Rattle.model.specs.declared.Slot.TheVariants.{Empty, Full}
+use Rattle.model.specs.State.{Store, at, Slot}
 use Rattle.model.specs.Inputs.{Input, input_slots}
 use Rattle.model.specs.Running.{runs, start_control, start_store}
 use Rattle.model.proofs.Kept.{Fresh, Kept, shell, run_kept}
@@ -24,15 +23,15 @@ use Rattle.day_jobs.proofs.JobEnd.{length_end, end_at, end_empty}
 -- of the 256 places of a store, none from c on is taken
 pub record Free (c : ℕ) (σ : Store) : Type 0 where
   pub sized : length σ ≡ 256
-  pub empty : (p : ℕ) → c ≤ p → at σ p ≡ Empty
+  pub empty : (p : ℕ) → c ≤ p → at σ p ≡ None
 
 pub end_free : (c : ℕ) (σ : Store) → length σ ≡ 256 → Free c (end_job c σ)
 end_free c σ e = record { sized = length_end c 0 σ ∙ e; empty = λ p le. end_at c σ p ∙ end_empty c p (at σ p) le }
 
-shell_none : (x : Slot) → shell Empty ≡ shell x → x ≡ Empty
+shell_none : (x : Slot) → shell None ≡ shell x → x ≡ None
 unfolding shell
-shell_none Empty e = refl
-shell_none (Full r) e = cc
+shell_none None e = refl
+shell_none (Some r) e = cc
 
 -- ── the jobs ──
 
@@ -54,9 +53,9 @@ module _ (bs : List ℕ) where
       sized : length (start_store (input_slots xs)) ≡ 256
       sized = simp (length-append, length-replicate, length_slots) (omega arith)
 
-      below : (p : ℕ) → (day_header bs).records.count ≤ p → Dec (p < 256) → at (start_store (input_slots xs)) p ≡ Empty
+      below : (p : ℕ) → (day_header bs).records.count ≤ p → Dec (p < 256) → at (start_store (input_slots xs)) p ≡ None
       below p h (yes lt) = (start_fresh xs (day_label bs 0) (day_label bs 0) 0 (day_header bs).records.count 256 (sym e) (omega arith) p (h, lt)).1
-      below p h (no far) = get_or-eq_default (start_store (input_slots xs)) Empty (omega (arith, sized))
+      below p h (no far) = get_or-eq_default (start_store (input_slots xs)) None (omega (arith, sized))
 
   module _ (j : Job) (le : j.places ≤ 256) (σ : Store) (f : Free (day_header bs).records.count σ) where
     kept : Kept any_label (job_account bs j) σ (job_run bs j σ).account (job_run bs j σ).store
@@ -74,7 +73,7 @@ module _ (bs : List ℕ) where
     after_free = end_free (day_header bs).records.count (job_run bs j σ).store job_sized
 
     -- and fills none from its limit on
-    pub job_below : (day_header bs).records.count ≤ j.places → (p : ℕ) → j.places ≤ p → at (job_run bs j σ).store p ≡ Empty
+    pub job_below : (day_header bs).records.count ≤ j.places → (p : ℕ) → j.places ≤ p → at (job_run bs j σ).store p ≡ None
     unfolding job_account_over
     job_below fits p h =
         shell_none (at (job_run bs j σ).store p) (ap shell (sym (f.empty p (omega arith))) ∙ kept.shells p (λ i. omega (arith, i.1)))

@@ -2,3 +2,4 @@
 pub mod JobEnd
 pub mod Running
 pub mod Parts
+pub mod Jobs

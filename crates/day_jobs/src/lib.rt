@@ -1,112 +1,96 @@
 // A job of a day: its run, and its end.
 #![tactic(auto)]
 
-ghost use Rattle.std.specs.Prelude.{◌≡◌, length, set};
-ghost use Rattle.model.specs.Words.{file_words};
-ghost use Rattle.model.specs.State.{at as slot_at};
-ghost use Rattle.store.specs.Slots.{words, slots};
-ghost use Rattle.machine.specs.Steps.{Finishes};
-ghost use Rattle.day_file.specs.Parts.{DayLoads};
-ghost use Rattle.day_jobs.specs.JobEnd.{kept_datum, kept_contents, end_slot, end_job};
-ghost use Rattle.day_jobs.specs.Running.{job_run};
-ghost use Rattle.day_jobs.specs.Parts.{Runnable};
+mod job;
 
-use day_file::{Header, Job};
-use model::{Contents, Datum, Finished, Record, Slot};
-use store::PLACES;
+ghost use Rattle.std.specs.Prelude.{◌≡◌, ◌+◌, ◌*◌, ◌≤◌, ◌<◌, length};
+ghost use Rattle.machine.specs.Steps.{Finishes};
+ghost use Rattle.file_sections.specs.Sections.{record_bytes_of};
+ghost use Rattle.day_file.specs.Sections.{day_sections, job_from};
+ghost use Rattle.day_jobs.specs.JobEnd.{kept_contents, end_slot, end_job};
+ghost use Rattle.day_jobs.specs.Jobs.{run_of};
+
+use day_file::Day;
+pub use job::DayJob;
+use machine::Program;
+use model::{Contents, Datum, FaultCode, Finished, Slot};
+use store::Store;
 
 // ---- the end of a job, of a day with `count` input records
 
-#[tactic(auto, unfolding(crate::specs::JobEnd::kept_datum))]
-fn kept_datum(count: usize, d: Datum) -> Contents
-    ensures { result ≡ kept_datum count d }
-{
-    match d {
-        Datum::Number(n) => Contents::Value(Datum::Number(n)),
-        Datum::Label(l) => Contents::Value(Datum::Label(l)),
-        Datum::Handle(kind, p) => {
-            if count <= p {
-                return Contents::Fault(33, 0);
-            }
-            Contents::Value(Datum::Handle(kind, p))
-        }
-    }
-}
-
-#[tactic(auto, unfolding(crate::specs::JobEnd::kept_contents))]
+#[tactic(auto, unfolding(crate::specs::JobEnd::kept_contents, crate::specs::JobEnd::kept_datum))]
 fn kept_contents(count: usize, contents: Contents) -> Contents
     ensures { result ≡ kept_contents count contents }
 {
     match contents {
-        Contents::Value(d) => kept_datum(count, d),
-        Contents::Fault(code, number) => Contents::Fault(code, number),
+        Contents::Value(Datum::Handle(_, p)) if count <= p => {
+            Contents::Fault(FaultCode::NoRecord as u32, 0)
+        }
+        _ => contents,
     }
 }
 
 // Keeps an input record, and empties any other place.
-fn end_place(store: &mut [u64], count: usize, p: usize)
-    requires { length store.old ≡ words }
-    ensures { slots store.new ≡ set (slots store.old) p (end_slot count p (slot_at (slots store.old) p)) }
+#[tactic(auto, unfolding(crate::specs::JobEnd::end_slot, crate::specs::JobEnd::kept_slot))]
+fn end_place(slot: &mut Slot, count: usize, p: usize)
+    ensures { slot.new ≡ end_slot count p slot.old }
 {
     if count <= p {
-        store::clear(store, p);
-        return;
-    }
-    match store::load(store, p) {
-        Slot::Empty => {}
-        Slot::Full(r) => {
-            let kind = r.kind;
-            let label = r.label;
-            let held = r.contents;
-            let contents = kept_contents(count, held);
-            store::save(
-                store,
-                p,
-                Record {
-                    kind,
-                    label,
-                    contents,
-                },
-            );
-        }
+        *slot = None;
+    } else if let Some(r) = slot {
+        r.contents = kept_contents(count, r.contents);
     }
 }
 
-pub fn end_job(store: &mut [u64], count: usize)
-    requires { length store.old ≡ words }
-    ensures { slots store.new ≡ end_job count (slots store.old) }
+pub fn end_job(store: &mut Store, count: usize)
+    ensures { store.new ≡ end_job count store.old }
 {
-    let mut p = 0;
-    while p < PLACES {
-        end_place(store, count, p);
-        p += 1;
+    for (p, slot) in store.iter_mut().enumerate() {
+        end_place(slot, count, p);
     }
 }
 
 // ---- a job
 
-// Runs a job of a day that loads, on the store as the job before left it.
-pub fn run_job(file: &[u8], h: Header, labels: &[u64], job: Job, store: &mut [u64]) -> Finished
-    requires { DayLoads file.now h labels.now × (length labels.now ≡ file_words) × (length store.old ≡ words) × Runnable h job file.now }
-    ensures { Finishes result (slots store.new) (job_run file.now job (slots store.old)) }
+// Job k of a day, one of 16 at most.
+pub fn job_of(day: Day, k: usize) -> DayJob
+    requires { k < day.header.jobs.count }
+    ensures few { k < 16 }
+    ensures of_day { result.day ≡ day.entry }
+    ensures is { result.numbers ≡ job_from day.entry.file.now (day.entry.header.jobs.offset + 12 * k) }
 {
-    let records = h.records;
-    let jobs = h.jobs;
-    let code = h.code;
-    let a = records.offset;
-    let b = jobs.offset;
-    let first = code.offset + job.start;
-    let end = first + job.length;
-    let label = operands::label_at(labels, job.label);
-    let clearance = operands::label_at(labels, job.clearance);
+    let numbers = day_file::job_at(day.file, day.header.jobs.offset + 12 * k);
+    DayJob { day, numbers }
+}
+
+// The bytes of a day's input records.
+pub fn records_of(day: Day) -> &[u8]
+    ensures are { result.now ≡ record_bytes_of (day_sections day.entry.file.now) day.entry.file.now }
+    ensures long { length result.now ≡ 6 * day.entry.header.records.count }
+    ensures short { length result.now ≤ 384 }
+{
+    &day.file[day.header.records.offset..day.header.jobs.offset]
+}
+
+// Runs a job of a day, on the store as the job before left it.
+pub fn run_job(job: DayJob, store: &mut Store) -> Finished
+    ensures { Finishes result store.new (run_of job.entry store.old) }
+{
+    let DayJob { day, numbers, .. } = job;
+    let start = day.header.code.offset + numbers.start;
+    let program = Program {
+        code: &day.file[start..start + numbers.length],
+        labels: day.labels,
+        records: records_of(day),
+    };
+    let label = operands::label_at(day.labels, numbers.label);
+    let clearance = operands::label_at(day.labels, numbers.clearance);
     machine::execute(
-        &file[first..end],
-        labels,
-        &file[a..b],
+        program,
         label,
         clearance,
-        job.steps,
-        job.places,
+        numbers.steps,
+        numbers.places,
         store,
     )
 }

@@ -1,16 +1,13 @@
 -- The loop over the jobs of a day: what is left of their lines.
+use Rattle.std.specs.Prelude.{Option, Some, None}
 use mathlib.Core.Bool.{Bool}
 use mathlib.Core.List.{List, ◌++◌}
 use mathlib.Core.Path.{◌≡◌, refl, sym, ap, ◌∙◌}
 use Prim.Native.Nat.{ℕ, ◌+◌, ◌*◌, ◌≤◌, ◌<◌}
-use native.Mathlib.Nat.{le_of_eq}
 use native.Mathlib.Omega.{arith}
 use lib.ListN.{length, get_or, drop, replicate, drop_of_length-le}
 use Rattle.labels.specs.declared.Label.{Label}
 use Rattle.model.specs.Decoding.{u16}
-use Rattle.model.specs.declared.Finished.{Finished}
-use Rattle.store.specs.Slots.{slots}
-use Rattle.store.proofs.Places.{length_slots}
 use Rattle.view_fields.specs.Fields.{little_endian}
 use Rattle.view_fields.specs.Writing.{over}
 use Rattle.view_fields.proofs.Buffers.{Writing, from_here, start, piece, ends as all_of, ends_at, part, back, room_for}
@@ -18,13 +15,12 @@ use Rattle.view.specs.Layout.{view}
 use Rattle.view.specs.Writing.{observes, finished}
 use Rattle.lines.specs.Lines.{hex, front_fields, widths, spaced, line}
 use Rattle.file_lines.specs.Room.{longest_line}
-use Rattle.file_lines.proofs.Lengths.{line_most}
-use Rattle.day_file.specs.Sections.{day_header, day_label, job_from}
-use Rattle.day_jobs.specs.Running.{Turn, skipped, day_turns}
-use Rattle.day.specs.Views.{skipped_view, skipped_view_over, turn_view, each_turn}
-use Rattle.day_turns.specs.Keeping.{none, turn_of, store_at, Kept}
-use Rattle.day_turns.specs.declared.JobEnd.{JobEnd}
-use Rattle.day_lines.specs.Lines.{day_lines}
+use Rattle.day_file.specs.Sections.{day_header, day_label}
+use Rattle.day_jobs.specs.Running.{skipped, day_turns}
+use Rattle.day.specs.Views.{skipped_view, skipped_view_over, turn_view_over, each_turn}
+use Rattle.day_turns.specs.Keeping.{turn_of, Kept}
+use Rattle.day_turns.specs.declared.kept.KeptJob.{KeptJob}
+use Rattle.day_lines.specs.Lines.{turn_line, day_lines}
 
 -- ── a line ──
 
@@ -38,18 +34,21 @@ pub skipped_alone : over skipped_view (replicate 206 0) ≡ skipped_view
 unfolding over skipped_view_over little_endian
 skipped_alone = refl
 
--- the line of a run that left its records in a store of 256 places
-pub run_line_most : (Reads : Label → Bool) (s : ℕ) (f : Finished) (store : List ℕ) → length (line (view Reads s (finished f (slots store)))) ≤ longest_line
-run_line_most Reads s f store = line_most Reads s (finished f (slots store)) (le_of_eq (length_slots store))
+-- what a reader is shown of a job of which x is kept
+module _ (Reads : Label → Bool) (x : Option KeptJob) where
+  pub of_skipped : x ≡ None → line skipped_view ≡ turn_line Reads (turn_of x)
+  unfolding turn_view_over
+  of_skipped e = rw e
+
+  pub of_run : (j : KeptJob) → x ≡ Some j → line (view Reads j.steps (finished j.finish j.store)) ≡ turn_line Reads (turn_of x)
+  unfolding turn_view_over
+  of_run j e = rw e
 
 -- ── the jobs one by one ──
 
 module _ (Reads : Label → Bool) (bs : List ℕ) where
-  abbrev line_of : Turn → List ℕ
-  line_of t = line (turn_view Reads t)
-
   abbrev pub whole : List ℕ
-  whole = each_turn line_of (day_turns bs)
+  whole = each_turn (turn_line Reads) (day_turns bs)
 
   abbrev n : ℕ
   n = (day_header bs).jobs.count
@@ -57,37 +56,34 @@ module _ (Reads : Label → Bool) (bs : List ℕ) where
   -- the lines of the first k jobs are written; the buffer was b₀ and is b, written up to `at`
   pub record Served (b₀ b : List ℕ) (at k : ℕ) : Type 0 where
     pub few : at ≤ longest_line * k
-    pub writing : Writing whole (each_turn line_of (drop k (day_turns bs))) b₀ b at
+    pub writing : Writing whole (each_turn (turn_line Reads) (drop k (day_turns bs))) b₀ b at
 
   pub none_served : (b : List ℕ) → Served b b 0 0
   none_served b = record { few = omega arith; writing = start refl }
 
-  module _ {ends : List JobEnd} {stores : List ℕ} (kept : Kept bs ends stores) {b₀ b : List ℕ} {at k : ℕ} (w : Served b₀ b at k) where
+  module _ {kept : List (Option KeptJob)} (w : Kept bs kept) {b₀ b : List ℕ} {at k : ℕ} (s : Served b₀ b at k) where
     -- job k's line is written, in a buffer with room for the lines of all jobs
-    module _ (room : longest_line * n ≤ length b₀) (h : k < n) where
+    module _ (room : longest_line * n ≤ length b₀) (h : k < n) {x : Option KeptJob} (is : x ≡ get_or kept k None) where
       pub room_here : longest_line ≤ length (part at b)
-      room_here = room_for w.writing longest_line (omega (arith, w.few))
+      room_here = room_for s.writing longest_line (omega (arith, s.few))
 
-      -- what is kept of the job
-      abbrev turn : Turn
-      turn = turn_of (job_from bs ((day_header bs).jobs.offset + 12 * k)).steps (get_or ends k none) (store_at k stores)
-
-      line_here : each_turn line_of (drop k (day_turns bs)) ≡ line_of turn ++ each_turn line_of (drop (k + 1) (day_turns bs))
+      line_here : each_turn (turn_line Reads) (drop k (day_turns bs))
+          ≡ turn_line Reads (turn_of x) ++ each_turn (turn_line Reads) (drop (k + 1) (day_turns bs))
       unfolding each_turn
       line_here =
-          ap (each_turn line_of) (from_here (day_turns bs) skipped k (omega (arith, kept.count)))
-          ∙ ap (λ (v : List ℕ). line v ++ each_turn line_of (drop (k + 1) (day_turns bs))) (sym (kept.each k h Reads))
+          ap (each_turn (turn_line Reads)) (from_here (day_turns bs) skipped k (omega (arith, w.count)))
+          ∙ ap (λ (v : List ℕ). line v ++ each_turn (turn_line Reads) (drop (k + 1) (day_turns bs))) (rw is (sym (w.each k h Reads)))
 
-      pub one_more : {m : ℕ} → m ≤ longest_line → m ≡ length (line_of turn) → {ys : List ℕ} → ys ≡ over (line_of turn) (part at b)
+      pub one_more : {m : ℕ} → m ≤ longest_line → m ≡ length (turn_line Reads (turn_of x)) → {ys : List ℕ} → ys ≡ over (turn_line Reads (turn_of x)) (part at b)
           → Served b₀ (back at b ys) (at + m) (k + 1)
       one_more small e q =
-          record { few = omega (arith, w.few); writing = piece w.writing (line_of turn) line_here (sym e) (omega (arith, w.few)) q }
+          record { few = omega (arith, s.few); writing = piece s.writing (turn_line Reads (turn_of x)) line_here (sym e) (omega (arith, s.few)) q }
 
     pub all_served : n ≤ k → (at ≡ length whole) × (b ≡ over whole b₀)
     unfolding each_turn
     all_served h =
-        let e = ap (each_turn line_of) (drop_of_length-le (day_turns bs) {i = k} (omega (arith, kept.count))) in
-        (ends_at w.writing e, all_of w.writing e)
+        let e = ap (each_turn (turn_line Reads)) (drop_of_length-le (day_turns bs) {i = k} (omega (arith, w.count))) in
+        (ends_at s.writing e, all_of s.writing e)
 
 -- the lines for label i
 pub lines_are : (bs : List ℕ) (i : ℕ) (l : Label) → l ≡ day_label bs i → whole (observes l) bs ≡ day_lines bs i

@@ -1,5 +1,6 @@
 -- "fault 33 starts only from reading such contents": in an accepted day no operand fault and no check has that code, and no
 -- place that is asked for is empty. What is left is OPEN or READ of a record whose contents are fault 33.
+use Rattle.std.specs.Prelude.{None, Some}
 use mathlib.Core.Bool.{Bool, true}
 use mathlib.Core.List.{List, [], ◌∷◌}
 use mathlib.Core.Logic.{◌≢◌}
@@ -9,7 +10,7 @@ use native.Mathlib.Omega.{arith}
 use lib.Dec.{leb, ltb, lit<}
 use lib.ListN.{length}
 use Rattle.labels.specs.declared.Label.{Label}
-use Rattle.model.specs.State.{Control, Store, Program, flows_in, Runner, at, jump, with_frames, with_stack}
+use Rattle.model.specs.State.{Control, Store, Program, flows_in, Runner, at, jump, with_frames, with_stack, Slot}
 use Rattle.model.specs.declared.Account.{Account}
 use Rattle.model.specs.Operands.{Request, none, ends, throws, raises, lowers, labels, opens, makes, writes, blocks, Plan, faults, asks, pop_from, as_number, as_label, as_handle, as_sealed, as_reference, arity, drop_frame, operate, plan}
 use Rattle.model.specs.Effects.{Next, go, stop, fail_to, fail, check, check_flow, check_between, check_raise, raised, yield, open_slot, label_slot, write_slot, act}
@@ -19,10 +20,8 @@ use Rattle.model.specs.declared.Datum.{Datum}
 use Rattle.model.specs.declared.Datum.TheVariants.{Number, Label as Labelled, Handle}
 use Rattle.model.specs.declared.Value.{Value}
 use Rattle.model.specs.declared.Contents.{Contents}
-use Rattle.model.specs.declared.Contents.TheVariants.{Value as Full-of, Fault}
+use Rattle.model.specs.declared.Contents.TheVariants.{Value as Held, Fault}
 use Rattle.model.specs.declared.Record.{Record}
-use Rattle.model.specs.declared.Slot.{Slot}
-use Rattle.model.specs.declared.Slot.TheVariants.{Empty, Full}
 use Rattle.model.specs.declared.Frame.{Frame}
 use Rattle.model.specs.declared.Ending.TheVariants.{Result, Fault as Faulted, Spent}
 use Rattle.model.specs.declared.Instr.{Instr}
@@ -52,7 +51,7 @@ pub record Reads33 (σ : Store) (p : Plan) (n : ℕ) : Type 0 where
   pub place : ℕ
   pub asked : p ≡ asks rest (opens place)
   pub held : Record
-  pub there : at σ place ≡ Full held
+  pub there : at σ place ≡ Some held
   pub fault : held.contents ≡ Fault 33 n
 
 -- ── operands: 20, 21, 22 and 29 ──
@@ -69,21 +68,18 @@ pop_below c (v ∷ s) k h = h v.datum (with_stack s c)
 number_below : (d : Datum) (k : ℕ → Plan) → ((n : ℕ) → Below (k n)) → Below (as_number d k)
 unfolding as_number
 number_below (Number n) k h = h n
-number_below (Labelled l) k h = lit< tt
-number_below (Handle s p) k h = lit< tt
+number_below d k h = lit< tt
 
 label_below : (d : Datum) (k : Label → Plan) → ((l : Label) → Below (k l)) → Below (as_label d k)
 unfolding as_label
-label_below (Number n) k h = lit< tt
 label_below (Labelled l) k h = h l
-label_below (Handle s p) k h = lit< tt
+label_below d k h = lit< tt
 
 handle_below : (d : Datum) (k : ℕ → Plan) → ((p : ℕ) → Below (k p)) → Below (as_handle d k) × Below (as_sealed d k) × Below (as_reference d k)
 unfolding as_handle as_sealed as_reference
-handle_below (Number n) k h = (lit< tt, lit< tt, lit< tt)
-handle_below (Labelled l) k h = (lit< tt, lit< tt, lit< tt)
 handle_below (Handle Sealed p) k h = (h p, h p, lit< tt)
 handle_below (Handle Reference p) k h = (h p, lit< tt, h p)
+handle_below d k h = (lit< tt, lit< tt, lit< tt)
 
 frame_below : (c : Control) (fs : List Frame) → Below (drop_frame c fs)
 unfolding drop_frame
@@ -97,19 +93,13 @@ module _ (P : Program) (a : Account) (c : Control) where
   operate_below : (i : Instr) → Below (operate P a c i)
   unfolding operate
   operate_below End = one _ (λ d r. tt)
-  operate_below (Push n) = tt
-  operate_below (Lab i) = tt
-  operate_below (Get i) = tt
   operate_below (Set i) = one _ (λ d r. tt)
   operate_below Pop = one _ (λ d r. tt)
   operate_below Add = one _ (λ d r. number_below d _ (λ y. pop_below r r.stack _ (λ e q. number_below e _ (λ x. tt))))
   operate_below Sub = one _ (λ d r. number_below d _ (λ y. pop_below r r.stack _ (λ e q. number_below e _ (λ x. tt))))
   operate_below Less = one _ (λ d r. number_below d _ (λ y. pop_below r r.stack _ (λ e q. number_below e _ (λ x. tt))))
   operate_below Same = one _ (λ d r. number_below d _ (λ y. pop_below r r.stack _ (λ e q. number_below e _ (λ x. tt))))
-  operate_below (Jump t) = tt
   operate_below (Ifz t) = one _ (λ d r. number_below d _ (λ n. tt))
-  operate_below Cur = tt
-  operate_below Clr = tt
   operate_below Raise = one _ (λ d r. label_below d _ (λ l. tt))
   operate_below Lower = one _ (λ d r. label_below d _ (λ l. tt))
   operate_below Flows = one _ (λ d r. label_below d _ (λ m. pop_below r r.stack _ (λ e q. label_below e _ (λ l. tt))))
@@ -125,7 +115,7 @@ module _ (P : Program) (a : Account) (c : Control) where
   operate_below (Try h) = cond_one Below (ltb (length c.frames) 8) (λ _. tt) (λ _. lit< tt)
   operate_below Done = frame_below c c.frames
   operate_below Throw = one _ (λ d r. number_below d _ (λ n. tt))
-  operate_below (Input i) = tt
+  operate_below i = tt
 
   plan_below : (i : Instr) → Below (plan P a c i)
   unfolding plan
@@ -172,26 +162,26 @@ module _ (P : Program) (R : Runner) (c r : Control) (a : Account) (σ : Store) (
       → Only G (check_between P first second l (with_frames [] c) a σ x)
   between_only first second l x f g h = flow_only a.label l first _ f (flow_only l a.clearance second x g h)
 
-  open_only : (x : Slot) → x ≢ Empty → ((y : Record) (n : ℕ) → x ≡ Full y → y.contents ≡ Fault 33 n → G n) → Only G (open_slot P (with_frames [] c) r a σ x)
+  open_only : (x : Slot) → x ≢ None → ((y : Record) (n : ℕ) → x ≡ Some y → y.contents ≡ Fault 33 n → G n) → Only G (open_slot P (with_frames [] c) r a σ x)
   unfolding open_slot yield
-  open_only Empty full h = absurd (full refl)
-  open_only (Full y) full h = raise_only y.label _ (of_contents y.contents refl)
+  open_only None full h = absurd (full refl)
+  open_only (Some y) full h = raise_only y.label _ (of_contents y.contents refl)
     where
       of_contents : (z : Contents) → y.contents ≡ z → Only G (yield (with_frames [] c) r (raised P y.label a) σ z)
-      of_contents (Full-of d) e = goes_on G _ _ _
+      of_contents (Held d) e = goes_on G _ _ _
       of_contents (Fault code n) e = faulted G code n c (raised P y.label a) σ (λ g. h y n refl (e ∙ ap (λ (k : ℕ). Fault k n) g))
 
-  label_only : (x : Slot) → x ≢ Empty → Only G (label_slot (with_frames [] c) r a σ x)
+  label_only : (x : Slot) → x ≢ None → Only G (label_slot (with_frames [] c) r a σ x)
   unfolding label_slot
-  label_only Empty full = absurd (full refl)
-  label_only (Full y) full = goes_on G _ _ _
+  label_only None full = absurd (full refl)
+  label_only (Some y) full = goes_on G _ _ _
 
-  write_only : (p : ℕ) (d : Datum) (x : Slot) → x ≢ Empty → Only G (write_slot P (with_frames [] c) r a σ p d x)
+  write_only : (p : ℕ) (d : Datum) (x : Slot) → x ≢ None → Only G (write_slot P (with_frames [] c) r a σ p d x)
   unfolding write_slot
-  write_only p d Empty full = absurd (full refl)
-  write_only p d (Full y) full = between_only 23 24 y.label _ (lit< tt) (lit< tt) (goes_on G _ _ _)
+  write_only p d None full = absurd (full refl)
+  write_only p d (Some y) full = between_only 23 24 y.label _ (lit< tt) (lit< tt) (goes_on G _ _ _)
 
-  act_only : (q : Request) → Holds σ q → ((p : ℕ) (y : Record) (n : ℕ) → q ≡ opens p → at σ p ≡ Full y → y.contents ≡ Fault 33 n → G n)
+  act_only : (q : Request) → Holds σ q → ((p : ℕ) (y : Record) (n : ℕ) → q ≡ opens p → at σ p ≡ Some y → y.contents ≡ Fault 33 n → G n)
       → Only G (act P R (with_frames [] c) r a σ q)
   unfolding act
   act_only none full h = goes_on G _ _ _

@@ -1,4 +1,5 @@
 -- The end of a job: an observer sees of two stores what it saw, the handles that lead nowhere being faults in both.
+use Rattle.std.specs.Prelude.{None, Some}
 use mathlib.Core.Bool.{Bool, true, false}
 use mathlib.Core.List.{List, [], ◌∷◌}
 use mathlib.Core.Path.{◌≡◌, refl, sym, ap, ◌∙◌, subst}
@@ -8,14 +9,12 @@ use lib.Dec.{leb, ltb}
 use borrow.Author.Tests.{leb-false}
 use lib.ListN.{length}
 use Rattle.labels.specs.declared.Label.{Label}
-use Rattle.model.specs.State.{Store, Program, at, shown}
+use Rattle.model.specs.State.{Store, Program, at, shown, Slot}
 use Rattle.model.specs.Inputs.{Input, handles}
 use Rattle.model.specs.declared.Datum.{Datum}
 use Rattle.model.specs.declared.Datum.TheVariants.{Number, Label as Labelled, Handle}
 use Rattle.model.specs.declared.Contents.{Contents}
 use Rattle.model.specs.declared.Contents.TheVariants.{Value as Holds, Fault}
-use Rattle.model.specs.declared.Slot.{Slot}
-use Rattle.model.specs.declared.Slot.TheVariants.{Empty, Full}
 use Rattle.model.proofs.Tests.{cond_one}
 use Rattle.model.proofs.Kept.{shell}
 use Rattle.model.proofs.Plans.{All}
@@ -28,15 +27,15 @@ use Rattle.day_jobs.proofs.JobEnd.{length_end, end_kept, end_at}
 -- a record keeps its kind and label
 kept_shell : (c : ℕ) (x : Slot) → shell (kept_slot c x) ≡ shell x
 unfolding shell kept_slot
-kept_shell c Empty = refl
-kept_shell c (Full r) = refl
+kept_shell c None = refl
+kept_shell c (Some r) = refl
 
 kept_shown : (Low : Label → Bool) (c : ℕ) (x : Slot) → shown Low (kept_slot c x) ≡ kept_slot c (shown Low x)
 unfolding shown kept_slot
-kept_shown Low c Empty = refl
-kept_shown Low c (Full r) = test (Low r.label) refl
+kept_shown Low c None = refl
+kept_shown Low c (Some r) = test (Low r.label) refl
   where
-    test : (t : Bool) → Low r.label ≡ t → shown Low (kept_slot c (Full r)) ≡ kept_slot c (shown Low (Full r))
+    test : (t : Bool) → Low r.label ≡ t → shown Low (kept_slot c (Some r)) ≡ kept_slot c (shown Low (Some r))
     test true e = rw e
     test false e = rw e
 
@@ -73,8 +72,8 @@ module _ (c : ℕ) (σ τ : Store) where
 
   slot_shared : (x : Slot) → SharedSlot σ τ x → SharedSlot (end_job c σ) (end_job c τ) (kept_slot c x)
   unfolding kept_slot
-  slot_shared Empty h = tt
-  slot_shared (Full r) h = contents_shared r.contents h
+  slot_shared None h = tt
+  slot_shared (Some r) h = contents_shared r.contents h
 
   end_shared : (p : ℕ) (x : Slot) → SharedSlot σ τ x → SharedSlot (end_job c σ) (end_job c τ) (end_slot c p x)
   unfolding end_slot

@@ -1,3 +1,3 @@
 -- Lemmas for the proofs of the functions.
-pub mod Stores
+pub mod Lists
 pub mod Keeping

@@ -43,14 +43,14 @@ use Rattle.effects.proofs.Taking.{less, Bounded, Fits, Good, fit}
 use Rattle.effects.proofs.Popping.{Tops, pop_one, pop_below, plan_takes, plan_leaves, plan_plain}
 use Rattle.effects.proofs.Checking.{fault as failed, raise_good, lower_good, make_good, enter_good, open_good, label_good, write_good}
 
-module _ (code ws rs : List ℕ) (R : Runner) (c : Control) (a : Account) (σ : Store) (b : Bounded c a) where
+module _ (code : List ℕ) (ls : List Label) (rs : List ℕ) (R : Runner) (c : Control) (a : Account) (σ : Store) (b : Bounded c a) where
   -- a decision does what the definition asks for
   abbrev Does : Datum → Datum → Decision → Plan → Type 0
-  Does y x d p = Good code ws rs R c a σ y x d (perform (program code ws rs) R c a σ p)
+  Does y x d p = Good code ls rs R c a σ y x d (perform (program code ls rs) R c a σ p)
 
   fault : (y x : Datum) (f : ℕ) → Does y x (faulty f) (faults f)
   unfolding perform
-  fault y x f = failed code ws rs R c a σ b y x f 0
+  fault y x f = failed code ls rs R c a σ b y x f 0
 
   -- ── numbers ──
 
@@ -88,7 +88,7 @@ module _ (code ws rs : List ℕ) (R : Runner) (c : Control) (a : Account) (σ : 
 
   module _ (y x : Datum) (t : Tops c y x) where
     abbrev P : Program
-    P = program code ws rs
+    P = program code ls rs
 
     abbrev decides : Task → Decision
     decides p = decision_of p y x a σ
@@ -154,7 +154,7 @@ module _ (code ws rs : List ℕ) (R : Runner) (c : Control) (a : Account) (σ : 
     unfolding as_sealed perform
     opens_good (Number n) h = fault y x 22
     opens_good (Labelled l) h = fault y x 22
-    opens_good (Handle Sealed p) h = open_good code ws rs R c a σ b y x p h
+    opens_good (Handle Sealed p) h = open_good code ls rs R c a σ b y x p h
     opens_good (Handle Reference p) h = fault y x 22
 
     reads_good : (d : Datum) → 1 ≤ height → Does y x (on_handle (Opens Reference) d a σ) (as_reference d (λ p. asks (less 1 c) (opens p)))
@@ -162,27 +162,27 @@ module _ (code ws rs : List ℕ) (R : Runner) (c : Control) (a : Account) (σ : 
     reads_good (Number n) h = fault y x 22
     reads_good (Labelled l) h = fault y x 22
     reads_good (Handle Sealed p) h = fault y x 22
-    reads_good (Handle Reference p) h = open_good code ws rs R c a σ b y x p h
+    reads_good (Handle Reference p) h = open_good code ls rs R c a σ b y x p h
 
     labels_good : (d : Datum) → 1 ≤ height → Does y x (on_handle LabelOf d a σ) (as_handle d (λ p. asks (less 1 c) (labels p)))
     unfolding as_handle perform
     labels_good (Number n) h = fault y x 22
     labels_good (Labelled l) h = fault y x 22
-    labels_good (Handle e p) h = label_good code ws rs R c a σ b y x p h
+    labels_good (Handle e p) h = label_good code ls rs R c a σ b y x p h
 
     writes_good : (d : Datum) → 2 ≤ height → Does y x (on_handle Writes d a σ) (as_reference d (λ p. asks (less 2 c) (writes p x)))
     unfolding as_reference perform
     writes_good (Number n) h = fault y x 22
     writes_good (Labelled l) h = fault y x 22
     writes_good (Handle Sealed p) h = fault y x 22
-    writes_good (Handle Reference p) h = write_good code ws rs R c a σ b y x p h
+    writes_good (Handle Reference p) h = write_good code ls rs R c a σ b y x p h
 
     -- SEAL and NEW
     makes_good : (e : Kind) → 2 ≤ height → Does y x (on_label (Makes e) y a) (pop_label c (λ l r. pop r (λ d q. asks q (makes e l d))))
     unfolding as_label perform
     makes_good e h =
         popped (λ d r. as_label d (λ l. pop r (λ v q. asks q (makes e l v)))) (omega (arith, h))
-        (via (later y) (on-label (Makes e) x (λ l. asks (less 2 c) (makes e l x)) (λ l. make_good code ws rs R c a σ b x l e h) y))
+        (via (later y) (on-label (Makes e) x (λ l. asks (less 2 c) (makes e l x)) (λ l. make_good code ls rs R c a σ b x l e h) y))
       where
         later : (d : Datum) → as_label d (λ l. pop (less 1 c) (λ v q. asks q (makes e l v))) ≡ as_label d (λ l. asks (less 2 c) (makes e l x))
         later (Number n) = refl
@@ -244,9 +244,9 @@ module _ (code ws rs : List ℕ) (R : Runner) (c : Control) (a : Account) (σ : 
     decision_performs Cur = push_good Cur _ refl (λ f. record { there = omega arith; fits = f; does = refl })
     decision_performs Clr = push_good Clr _ refl (λ f. record { there = omega arith; fits = f; does = refl })
     decision_performs Raise = short_good Raise 1 0 _ refl (omega arith)
-        (λ h. popped (λ d r. as_label d (λ l. asks r (raises l))) h (on-label Raises x (λ l. asks (less 1 c) (raises l)) (λ l. raise_good code ws rs R c a σ b x l h) y))
+        (λ h. popped (λ d r. as_label d (λ l. asks r (raises l))) h (on-label Raises x (λ l. asks (less 1 c) (raises l)) (λ l. raise_good code ls rs R c a σ b x l h) y))
     decision_performs Lower = short_good Lower 1 0 _ refl (omega arith)
-        (λ h. popped (λ d r. as_label d (λ l. asks r (lowers l))) h (on-label Lowers x (λ l. asks (less 1 c) (lowers l)) (λ l. lower_good code ws rs R c a σ b x l h) y))
+        (λ h. popped (λ d r. as_label d (λ l. asks r (lowers l))) h (on-label Lowers x (λ l. asks (less 1 c) (lowers l)) (λ l. lower_good code ls rs R c a σ b x l h) y))
     decision_performs Flows = short_good Flows 2 1 _ refl (omega arith) (λ h. two_labels Flowing (λ m l. truth (flows_in P l m)) (λ m l. bit_good (Labelled m) (Labelled l) (flows_in P l m) h) h)
     decision_performs Join = short_good Join 2 1 _ refl (omega arith) (λ h. two_labels Joining (λ m l. Labelled (P.join l m)) (λ m l. record { there = h; fits = fit_two h; does = refl }) h)
     decision_performs Meet = short_good Meet 2 1 _ refl (omega arith) (λ h. two_labels Meeting (λ m l. Labelled (P.meet l m)) (λ m l. record { there = h; fits = fit_two h; does = refl }) h)
@@ -258,9 +258,9 @@ module _ (code ws rs : List ℕ) (R : Runner) (c : Control) (a : Account) (σ : 
     decision_performs Write = short_good Write 2 0 _ refl (omega arith)
         (λ h. popped (λ e r. pop r (λ d q. as_reference e (λ p. asks q (writes p d)))) (omega (arith, h)) (popped_below (λ d q. as_reference y (λ p. asks q (writes p d))) h (writes_good y h)))
     decision_performs (Block j n k) = short_good (Block j n k) 1 1 _ refl (omega arith)
-        (λ h. popped (λ d r. as_label d (λ l. asks r (blocks l j n k))) h (on-label (Blocks j n k) x (λ l. asks (less 1 c) (blocks l j n k)) (λ l. enter_good code ws rs R c a σ b x l j n k h) y))
+        (λ h. popped (λ d r. as_label d (λ l. asks r (blocks l j n k))) h (on-label (Blocks j n k) x (λ l. asks (less 1 c) (blocks l j n k)) (λ l. enter_good code ls rs R c a σ b x l j n k h) y))
     decision_performs (Try h) = room_good (Try h) 2 30 _ refl (omega arith) (λ r. try_good h (ltb (length c.frames) 8) refl r)
     decision_performs Done = via (plan_plain P a c Done b.stack refl) (done_good c.frames refl)
     decision_performs Throw = short_good Throw 1 0 _ refl (omega arith)
         (λ h. popped (λ d r. as_number d (λ n. asks r (throws n))) h (on-number y x (test_of Throws) (λ n. asks (less 1 c) (throws n)) (λ n. record { there = omega arith; fits = fit c a 0 0 b (omega arith) (omega (arith, b.stack)); does = refl }) y))
-    decision_performs (Input i) = push_good (Input i) _ refl (λ f. via (ap (λ (d : Datum). pushes d c) (sym (input-at code ws rs i))) (input_good i f))
+    decision_performs (Input i) = push_good (Input i) _ refl (λ f. via (ap (λ (d : Datum). pushes d c) (sym (input-at code ls rs i))) (input_good i f))

@@ -5,6 +5,7 @@ use mathlib.Core.List.{List, ◌∷◌}
 use Prim.Native.Nat.{ℕ, ◌+◌, ◌≤◌, ◌<◌}
 use native.Mathlib.Omega.{arith}
 use lib.ListN.{length, get_or, set, drop, length-drop}
+use Rattle.labels.specs.declared.Label.{Label}
 use Rattle.labels.specs.Order.{join}
 use Rattle.model.specs.declared.Datum.{Datum}
 use Rattle.model.specs.declared.Datum.TheVariants.{Number, Label as Labelled, Handle}
@@ -77,14 +78,14 @@ fit c a k g b h r =
 -- ── what an effect does ──
 
 -- its operands dropped, y and x being the top one and the one below; R runs the bodies of blocks
-module _ (code ws rs : List ℕ) (R : Runner) (c : Control) (a : Account) (σ : Store) (y x : Datum) where
+module _ (code : List ℕ) (ls : List Label) (rs : List ℕ) (R : Runner) (c : Control) (a : Account) (σ : Store) (y x : Datum) where
   abbrev pub settle : Effect → Next
   settle (Fault by code n) = fail code n c (with_label (raised_by a.label by σ) a) σ
   settle Drop = go c a σ
   settle (Jump t) = go (jump t c) a σ
   settle (Gives n) = go (push (Number n) c) a σ
   settle (GivesHandle h p) = go (push (Handle h p) c) a σ
-  settle (GivesLabel o) = go (push (Labelled (label_from o a.label a.clearance ws σ)) c) a σ
+  settle (GivesLabel o) = go (push (Labelled (label_from o a.label a.clearance ls σ)) c) a σ
   settle (GivesPair f) = go (push (Labelled (paired_of f (label_of y) (label_of x))) c) a σ
   settle (Get i) = go (push (get_or c.locals i (number 0)).datum c) a σ
   settle (Set i) = go (set_local i y c) a σ
@@ -98,14 +99,14 @@ module _ (code ws rs : List ℕ) (R : Runner) (c : Control) (a : Account) (σ : 
   settle (Write p) = go c a (set σ p (rewritten x (at σ p)))
   settle (Open p) = go (push (record_value (at σ p)) c) (with_label (join a.label (record_label (at σ p))) a) σ
   settle (Block t n j) =
-      seal_outcome (program code ws rs) c a (label_of y) n j (R (body_control t c) (body_account n j a) σ)
+      seal_outcome (program code ls rs) c a (label_of y) n j (R (body_control t c) (body_account n j a) σ)
 
 -- a decision that fits, and does what the definition does
-module _ (code ws rs : List ℕ) (R : Runner) (c : Control) (a : Account) (σ : Store) (y x : Datum) where
+module _ (code : List ℕ) (ls : List Label) (rs : List ℕ) (R : Runner) (c : Control) (a : Account) (σ : Store) (y x : Datum) where
   pub record Good (d : Decision) (n : Next) : Type 0 where
     pub there : d.takes ≤ length c.stack
     pub fits : FitsEffect (less d.takes c) a d.effect
-    pub does : settle code ws rs R (less d.takes c) a σ y x d.effect ≡ n
+    pub does : settle code ls rs R (less d.takes c) a σ y x d.effect ≡ n
 
   -- a fault that changes nothing
   pub good_fault : (code n : ℕ) → Bounded c a → Good (thrown code n) (fail code n c a σ)

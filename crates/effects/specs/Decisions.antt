@@ -1,25 +1,20 @@
 -- What the code makes of labels and records: a decision, and where a label lies. These follow the code; `decision_performs`
 -- (proofs/Bridge) ties them to the machine's definition.
-use Rattle.std.specs.Prelude.{Bool, true, false, cond, List, ℕ, ◌+◌, leb, ltb, eqb}
+use Rattle.std.specs.Prelude.{Bool, true, false, cond, List, ℕ, ◌+◌, leb, ltb, eqb, Option, None, Some}
 use Rattle.labels.specs.declared.Label.{Label}
 use Rattle.labels.specs.Order.{flow_test, flows, join, meet}
-use Rattle.model.specs.State.{Store, at}
+use Rattle.model.specs.State.{Slot, Store, at}
 use Rattle.model.specs.declared.Account.{Account}
 use Rattle.model.specs.Effects.{contents_of}
-use Rattle.model.specs.Words.{label_in}
+use Rattle.model.specs.FileLabels.{label_in}
 use Rattle.model.specs.declared.Kind.{Kind}
 use Rattle.model.specs.declared.Kind.TheVariants.{Sealed, Reference}
 use Rattle.model.specs.declared.Datum.{Datum}
 use Rattle.model.specs.declared.Datum.TheVariants.{Number, Label as Labelled, Handle}
 use Rattle.model.specs.declared.Contents.{Contents}
 use Rattle.model.specs.declared.Contents.TheVariants.{Value as Holds, Fault as Faulty}
-use Rattle.model.specs.declared.Record.{Record}
-use Rattle.model.specs.declared.Slot.{Slot}
-use Rattle.model.specs.declared.Slot.TheVariants.{Empty, Full}
 use Rattle.model.specs.declared.Ending.{Ending}
 use Rattle.store.specs.Records.{record_label}
-use Rattle.operands.specs.declared.By.{By}
-use Rattle.operands.specs.declared.By.TheVariants.{None as NotRaised, Record as ByRecord}
 use Rattle.operands.specs.declared.Origin.{Origin}
 use Rattle.operands.specs.declared.Origin.TheVariants.{File, Current, Clearance, Record as OfRecord}
 use Rattle.operands.specs.declared.Both.{Both}
@@ -42,18 +37,21 @@ use Rattle.operands.specs.Tasks.{decided, thrown, faulty, on_numbers, labels_of}
 abbrev pub flowing : ℕ → ℕ → Decision → Decision
 flowing code answer d = cond (eqb answer 0) d (thrown code answer)
 
--- 23 and 24, as the code of the fault; 0 is none
-unfoldable pub target_of : Label → Label → Label → ℕ
-target_of label clearance l = cond (flows label l) (cond (flows l clearance) 0 24) 23
+-- 23 and 24: the fault of the first failing of the two tests, if one fails
+unfoldable pub target_of : Label → Label → Label → Option Decision
+target_of label clearance l =
+    cond (flows label l)
+    (cond (flows l clearance) None (Some (thrown 24 (flow_test l clearance))))
+    (Some (thrown 23 (flow_test label l)))
 
--- the number of 23 or 24: the answer of the first failing of the two tests
-unfoldable pub first_failing : Label → Label → Label → ℕ
-first_failing label clearance l = cond (eqb (flow_test label l) 0) (flow_test l clearance) (flow_test label l)
+-- a fault, or else what follows
+abbrev pub fault_or : Option Decision → Decision → Decision
+fault_or None d = d
+fault_or (Some fault) d = fault
 
 -- what follows where 23 and 24 don't apply
 abbrev pub passing : Label → Label → Label → Decision → Decision
-passing label clearance l d =
-    cond (eqb (target_of label clearance l) 0) d (thrown (target_of label clearance l) (first_failing label clearance l))
+passing label clearance l d = fault_or (target_of label clearance l) d
 
 abbrev pub rises_of : Label → Label → Label → Bool
 rises_of label clearance l = flows (join label l) clearance
@@ -73,13 +71,15 @@ lower_of label clearance l = flowing 25 (flow_test label l) (flowing 25 (flow_te
 abbrev pub make_of : Account → Kind → Label → Decision
 make_of a h l = passing a.label a.clearance l (cond (ltb a.next a.limit) (decided 2 (Make h)) (faulty 26))
 
--- BLOCK's checks on its n and k, as the code of the fault; 0 is none
-abbrev pub room_of : Account → ℕ → ℕ → ℕ
-room_of a n k = cond (ltb a.depth 8) (cond (leb n a.steps) (cond (leb (a.next + 1 + k) a.limit) 0 26) 27) 28
+-- BLOCK's checks on its n and k: the fault of the first that fails, if one does
+unfoldable pub room_of : Account → ℕ → ℕ → Option Decision
+room_of a n k =
+    cond (ltb a.depth 8)
+    (cond (leb n a.steps) (cond (leb (a.next + 1 + k) a.limit) None (Some (faulty 26))) (Some (faulty 27)))
+    (Some (faulty 28))
 
 abbrev pub enter_of : Account → Label → ℕ → ℕ → ℕ → Decision
-enter_of a b t n k =
-    passing a.label a.clearance b (cond (eqb (room_of a n k) 0) (decided 1 (Block t n k)) (faulty (room_of a n k)))
+enter_of a b t n k = passing a.label a.clearance b (fault_or (room_of a n k) (decided 1 (Block t n k)))
 
 abbrev pub with_label_of : OnLabel → Label → Account → Decision
 with_label_of Raises l a = raise_of a.label a.clearance l
@@ -102,25 +102,20 @@ is_kind Reference Reference = true
 
 abbrev pub yield_of : ℕ → Contents → Decision
 yield_of p (Holds d) = decided 1 (Open p)
-yield_of p (Faulty code n) = decided 0 (Fault (ByRecord p) code n)
-
-abbrev pub opened_of : Label → Label → ℕ → Record → Decision
-opened_of label clearance p r = cond (rises_of label clearance r.label) (yield_of p r.contents) (too_high label clearance r.label)
+yield_of p (Faulty code n) = decided 0 (Fault (Some p) code n)
 
 abbrev pub open_of : Label → Label → ℕ → Slot → Decision
-open_of label clearance p Empty = faulty 33
-open_of label clearance p (Full r) = opened_of label clearance p r
+open_of label clearance p None = faulty 33
+open_of label clearance p (Some r) =
+    cond (rises_of label clearance r.label) (yield_of p r.contents) (too_high label clearance r.label)
 
 abbrev pub labelled_of : ℕ → Slot → Decision
-labelled_of p Empty = faulty 33
-labelled_of p (Full r) = decided 1 (GivesLabel (OfRecord p))
-
-abbrev pub rewrite_of : Label → Label → ℕ → Record → Decision
-rewrite_of label clearance p r = passing label clearance r.label (decided 2 (Write p))
+labelled_of p None = faulty 33
+labelled_of p (Some r) = decided 1 (GivesLabel (OfRecord p))
 
 abbrev pub write_of : Label → Label → ℕ → Slot → Decision
-write_of label clearance p Empty = faulty 33
-write_of label clearance p (Full r) = rewrite_of label clearance p r
+write_of label clearance p None = faulty 33
+write_of label clearance p (Some r) = passing label clearance r.label (decided 2 (Write p))
 
 abbrev pub with_handle : OnHandle → Kind → ℕ → Account → Store → Decision
 with_handle (Opens k) h p a σ = cond (is_kind k h) (open_of a.label a.clearance p (at σ p)) (faulty 22)
@@ -146,21 +141,22 @@ decision_of (Labels t) y x a σ = on_labels t y x a σ
 
 -- ── where a label lies ──
 
-abbrev pub label_from : Origin → Label → Label → List ℕ → Store → Label
-label_from (File i) label clearance ws σ = label_in ws i
-label_from Current label clearance ws σ = label
-label_from Clearance label clearance ws σ = clearance
-label_from (OfRecord p) label clearance ws σ = record_label (at σ p)
+-- ls being the file's labels
+abbrev pub label_from : Origin → Label → Label → List Label → Store → Label
+label_from (File i) label clearance ls σ = label_in ls i
+label_from Current label clearance ls σ = label
+label_from Clearance label clearance ls σ = clearance
+label_from (OfRecord p) label clearance ls σ = record_label (at σ p)
 
 -- m being the label on top and l the one below
 abbrev pub paired_of : Both → Label → Label → Label
 paired_of JoinOf m l = join l m
 paired_of MeetOf m l = meet l m
 
--- the label that a fault leaves
-abbrev pub raised_by : Label → By → Store → Label
-raised_by label NotRaised σ = label
-raised_by label (ByRecord p) σ = join label (record_label (at σ p))
+-- the label that a fault leaves, raised by the label of the record at a place, if there is one
+abbrev pub raised_by : Label → Option ℕ → Store → Label
+raised_by label None σ = label
+raised_by label (Some p) σ = join label (record_label (at σ p))
 
 -- ── a block's outcome ──
 

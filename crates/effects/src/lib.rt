@@ -1,141 +1,140 @@
-// What an instruction comes to on labels and records: faults 22 to 28, or an effect that says where things lie.
+// What an instruction comes to on labels and records: faults 22 to 28 and 31 to 33, or an effect that says where things
+// lie.
 #![tactic(auto)]
 
-ghost use Rattle.std.specs.Prelude.{◌≡◌, ◌^◌, ◌≤◌, ◌<◌, length, set};
-ghost use Rattle.model.specs.Words.{file_words};
+ghost use Rattle.std.specs.Prelude.{◌≡◌, set};
 ghost use Rattle.model.specs.State.{at};
 ghost use Rattle.model.specs.Effects.{holding};
-ghost use Rattle.store.specs.Slots.{words, slots};
-ghost use Rattle.effects.specs.Decisions.{target_of, first_failing, rises_of, too_high, raise_of, lower_of, make_of, room_of, enter_of, with_label_of, on_label, is_kind, opened_of, open_of, labelled_of, rewrite_of, write_of, with_handle, on_handle, on_labels, label_from, paired_of, raised_by, sealed_of};
+ghost use Rattle.operands.specs.Tasks.{thrown, faulty};
+ghost use Rattle.effects.specs.Decisions.{target_of, rises_of, too_high, raise_of, lower_of, make_of, room_of, enter_of};
+ghost use Rattle.effects.specs.Decisions.{with_label_of, on_label, open_of, labelled_of, write_of, with_handle, on_handle};
+ghost use Rattle.effects.specs.Decisions.{on_labels, label_from, paired_of, raised_by, sealed_of};
 
 use labels::Label;
-use model::{Account, Contents, Datum, Ending, Kind, Record, Slot};
-use operands::{Both, By, Decision, Effect, LabelTask, OnHandle, OnLabel, Origin};
+use model::{Account, Contents, Datum, Ending, FILE_LABELS, FaultCode, Kind, Record};
+use operands::{Both, Decision, Effect, LabelTask, OnHandle, OnLabel, Origin};
+use store::Store;
 
 // ---- the checks. A fault's number is worked out once a check has failed, so that one that holds takes no longer.
 
-// 23 and 24, as the code of the fault; 0 is none.
+// 23 and 24: the fault of the first failing of the two tests, if one fails. Inlined, since the
+// interpreter's loop comes to three calls of it.
+#[inline(always)]
 #[tactic(auto, unfolding(crate::specs::Decisions::target_of))]
-fn target(label: Label, clearance: Label, l: Label) -> u32
-    ensures { result ≡ target_of label clearance l }
+fn target(a: Account, l: Label) -> Option<Decision>
+    ensures { result ≡ target_of a.label a.clearance l }
 {
-    if !labels::flows(label, l) {
-        return 23;
+    if !labels::flows(a.label, l) {
+        let number = labels::flow_test(a.label, l);
+        return Some(operands::thrown(FaultCode::BelowLabel as u32, number));
     }
-    if !labels::flows(l, clearance) {
-        return 24;
+    if !labels::flows(l, a.clearance) {
+        let number = labels::flow_test(l, a.clearance);
+        return Some(operands::thrown(FaultCode::AboveClearance as u32, number));
     }
-    0
-}
-
-// The number of 23 or 24: the answer of the first failing of the two tests; 0 where both hold.
-#[tactic(auto, unfolding(crate::specs::Decisions::first_failing))]
-fn first_failing(label: Label, clearance: Label, l: Label) -> u32
-    ensures { result ≡ first_failing label clearance l }
-{
-    let first = labels::flow_test(label, l);
-    if first != 0 {
-        return first;
-    }
-    labels::flow_test(l, clearance)
+    None
 }
 
 // The raised label flows to the clearance.
-fn rises(label: Label, clearance: Label, l: Label) -> bool
-    ensures { result ≡ rises_of label clearance l }
+fn rises(a: Account, l: Label) -> bool
+    ensures { result ≡ rises_of a.label a.clearance l }
 {
-    labels::flows(labels::join(label, l), clearance)
+    labels::flows(labels::join(a.label, l), a.clearance)
 }
 
 // 24 of RAISE, OPEN and READ: the raised label doesn't flow to the clearance.
-fn too_high(label: Label, clearance: Label, l: Label) -> Decision
-    ensures { result ≡ too_high label clearance l }
+fn too_high(a: Account, l: Label) -> Decision
+    ensures { result ≡ too_high a.label a.clearance l }
 {
-    operands::thrown(24, labels::flow_test(labels::join(label, l), clearance))
+    let number = labels::flow_test(labels::join(a.label, l), a.clearance);
+    operands::thrown(FaultCode::AboveClearance as u32, number)
 }
 
 // ---- on a label
 
-fn raise(label: Label, clearance: Label, l: Label) -> Decision
-    ensures { result ≡ raise_of label clearance l }
+fn raise(a: Account, l: Label) -> Decision
+    ensures { result ≡ raise_of a.label a.clearance l }
 {
-    if !rises(label, clearance, l) {
-        return too_high(label, clearance, l);
+    if !rises(a, l) {
+        return too_high(a, l);
     }
     operands::decides(1, Effect::Raise)
 }
 
-fn lower(label: Label, clearance: Label, l: Label) -> Decision
-    ensures { result ≡ lower_of label clearance l }
+// 25, with what the failing test answers.
+fn lowering_fault(number: u32) -> Decision
+    ensures { result ≡ thrown 25 number }
 {
-    if !labels::flows(label, l) {
-        return operands::thrown(25, labels::flow_test(label, l));
+    operands::thrown(FaultCode::BadLowering as u32, number)
+}
+
+fn lower(a: Account, l: Label) -> Decision
+    ensures { result ≡ lower_of a.label a.clearance l }
+{
+    if !labels::flows(a.label, l) {
+        return lowering_fault(labels::flow_test(a.label, l));
     }
-    if !labels::flows(l, clearance) {
-        return operands::thrown(25, labels::flow_test(l, clearance));
+    if !labels::flows(l, a.clearance) {
+        return lowering_fault(labels::flow_test(l, a.clearance));
     }
     operands::decides(1, Effect::Lower)
+}
+
+// 26.
+fn no_place() -> Decision
+    ensures { result ≡ faulty 26 }
+{
+    operands::faulty(FaultCode::NoPlace as u32)
 }
 
 // SEAL, NEW.
 fn make(a: Account, kind: Kind, l: Label) -> Decision
     ensures { result ≡ make_of a kind l }
 {
-    let label = a.label;
-    let clearance = a.clearance;
-    let fault = target(label, clearance, l);
-    if fault != 0 {
-        return operands::thrown(fault, first_failing(label, clearance, l));
+    if let Some(fault) = target(a, l) {
+        return fault;
     }
     if a.limit <= a.next {
-        return operands::faulty(26);
+        return no_place();
     }
     operands::decides(2, Effect::Make(kind))
 }
 
-// BLOCK's checks on its n and k, as the code of the fault; 0 is none.
-fn room(a: Account, n: usize, k: usize) -> u32
-    requires { a.next ≤ a.limit }
+// BLOCK's checks on its n and k: the fault of the first that fails, if one does.
+#[tactic(auto, unfolding(crate::specs::Decisions::room_of))]
+fn room(a: Account, n: usize, k: usize) -> Option<Decision>
     ensures { result ≡ room_of a n k }
 {
     if 8 <= a.depth {
-        return 28;
+        return Some(operands::faulty(FaultCode::TooDeep as u32));
     }
     if a.steps < n {
-        return 27;
+        return Some(operands::faulty(FaultCode::NoSteps as u32));
     }
-    if a.limit - a.next <= k {
-        return 26;
+    if a.limit.saturating_sub(a.next) <= k {
+        return Some(no_place());
     }
-    0
+    None
 }
 
 fn enter(a: Account, b: Label, t: usize, n: usize, k: usize) -> Decision
-    requires { a.next ≤ a.limit }
     ensures { result ≡ enter_of a b t n k }
 {
-    let label = a.label;
-    let clearance = a.clearance;
-    let fault = target(label, clearance, b);
-    if fault != 0 {
-        return operands::thrown(fault, first_failing(label, clearance, b));
+    if let Some(fault) = target(a, b) {
+        return fault;
     }
-    let full = room(a, n, k);
-    if full != 0 {
-        return operands::faulty(full);
+    if let Some(fault) = room(a, n, k) {
+        return fault;
     }
     operands::decides(1, Effect::Block(t, n, k))
 }
 
 fn with_label(f: OnLabel, l: Label, a: Account) -> Decision
-    requires { a.next ≤ a.limit }
     ensures { result ≡ with_label_of f l a }
 {
-    let label = a.label;
-    let clearance = a.clearance;
     match f {
-        OnLabel::Raise => raise(label, clearance, l),
-        OnLabel::Lower => lower(label, clearance, l),
+        OnLabel::Raise => raise(a, l),
+        OnLabel::Lower => lower(a, l),
         OnLabel::Make(kind) => make(a, kind, l),
         OnLabel::Block(t, n, k) => enter(a, l, t, n, k),
     }
@@ -143,130 +142,97 @@ fn with_label(f: OnLabel, l: Label, a: Account) -> Decision
 
 // RAISE, LOWER, SEAL, NEW, BLOCK.
 fn on_label(f: OnLabel, y: Datum, a: Account) -> Decision
-    requires { a.next ≤ a.limit }
     ensures { result ≡ on_label f y a }
 {
-    match y {
-        Datum::Number(_) => operands::faulty(22),
-        Datum::Label(l) => with_label(f, l, a),
-        Datum::Handle(_, _) => operands::faulty(22),
-    }
+    let Datum::Label(l) = y else {
+        return operands::wrong_kind();
+    };
+    with_label(f, l, a)
 }
 
 // ---- on a handle
 
-fn is_kind(k: Kind, kind: Kind) -> bool
-    ensures { result ≡ is_kind k kind }
+// 33.
+fn no_record() -> Decision
+    ensures { result ≡ faulty 33 }
 {
-    match k {
-        Kind::Sealed => match kind {
-            Kind::Sealed => true,
-            Kind::Reference => false,
-        },
-        Kind::Reference => match kind {
-            Kind::Sealed => false,
-            Kind::Reference => true,
-        },
-    }
-}
-
-fn opened(label: Label, clearance: Label, p: usize, r: Record) -> Decision
-    ensures { result ≡ opened_of label clearance p r }
-{
-    let own = r.label;
-    if !rises(label, clearance, own) {
-        return too_high(label, clearance, own);
-    }
-    let contents = r.contents;
-    match contents {
-        Contents::Value(_) => operands::decides(1, Effect::Open(p)),
-        Contents::Fault(code, number) => {
-            operands::decides(0, Effect::Fault(By::Record(p), code, number))
-        }
-    }
+    operands::faulty(FaultCode::NoRecord as u32)
 }
 
 // OPEN, READ.
-fn open(label: Label, clearance: Label, p: usize, store: &[u64]) -> Decision
-    requires { length store.now ≡ words }
-    ensures { result ≡ open_of label clearance p (at (slots store.now) p) }
+fn open(p: usize, a: Account, store: &Store) -> Decision
+    ensures { result ≡ open_of a.label a.clearance p (at store.now p) }
 {
-    match store::load(store, p) {
-        Slot::Empty => operands::faulty(33),
-        Slot::Full(r) => opened(label, clearance, p, r),
+    let Some(r) = store::load(store, p) else {
+        return no_record();
+    };
+    if !rises(a, r.label) {
+        return too_high(a, r.label);
+    }
+    match r.contents {
+        Contents::Value(_) => operands::decides(1, Effect::Open(p)),
+        Contents::Fault(code, number) => {
+            operands::decides(0, Effect::Fault(Some(p), code, number))
+        }
     }
 }
 
 // LABOF.
-fn label_of(p: usize, store: &[u64]) -> Decision
-    requires { length store.now ≡ words }
-    ensures { result ≡ labelled_of p (at (slots store.now) p) }
+fn label_of(p: usize, store: &Store) -> Decision
+    ensures { result ≡ labelled_of p (at store.now p) }
 {
-    match store::load(store, p) {
-        Slot::Empty => operands::faulty(33),
-        Slot::Full(_) => operands::decides(1, Effect::Label(Origin::Record(p))),
+    if store::load(store, p).is_none() {
+        return no_record();
     }
+    operands::decides(1, Effect::Label(Origin::Record(p)))
 }
 
-fn rewrite(label: Label, clearance: Label, p: usize, r: Record) -> Decision
-    ensures { result ≡ rewrite_of label clearance p r }
+// WRITE.
+fn write(p: usize, a: Account, store: &Store) -> Decision
+    ensures { result ≡ write_of a.label a.clearance p (at store.now p) }
 {
-    let l = r.label;
-    let fault = target(label, clearance, l);
-    if fault != 0 {
-        return operands::thrown(fault, first_failing(label, clearance, l));
+    let Some(r) = store::load(store, p) else {
+        return no_record();
+    };
+    if let Some(fault) = target(a, r.label) {
+        return fault;
     }
     operands::decides(2, Effect::Write(p))
 }
 
-// WRITE.
-fn write(label: Label, clearance: Label, p: usize, store: &[u64]) -> Decision
-    requires { length store.now ≡ words }
-    ensures { result ≡ write_of label clearance p (at (slots store.now) p) }
+fn with_handle(f: OnHandle, kind: Kind, p: usize, a: Account, store: &Store) -> Decision
+    ensures { result ≡ with_handle f kind p a store.now }
 {
-    match store::load(store, p) {
-        Slot::Empty => operands::faulty(33),
-        Slot::Full(r) => rewrite(label, clearance, p, r),
-    }
-}
-
-fn with_handle(f: OnHandle, kind: Kind, p: usize, a: Account, store: &[u64]) -> Decision
-    requires { length store.now ≡ words }
-    ensures { result ≡ with_handle f kind p a (slots store.now) }
-{
-    let label = a.label;
-    let clearance = a.clearance;
     match f {
         OnHandle::Open(k) => {
-            if !is_kind(k, kind) {
-                return operands::faulty(22);
+            if kind != k {
+                return operands::wrong_kind();
             }
-            open(label, clearance, p, store)
+            open(p, a, store)
         }
         OnHandle::Label => label_of(p, store),
-        OnHandle::Write => match kind {
-            Kind::Sealed => operands::faulty(22),
-            Kind::Reference => write(label, clearance, p, store),
-        },
+        OnHandle::Write => {
+            if kind != Kind::Reference {
+                return operands::wrong_kind();
+            }
+            write(p, a, store)
+        }
     }
 }
 
 // OPEN, READ, LABOF, WRITE.
-fn on_handle(f: OnHandle, y: Datum, a: Account, store: &[u64]) -> Decision
-    requires { length store.now ≡ words }
-    ensures { result ≡ on_handle f y a (slots store.now) }
+fn on_handle(f: OnHandle, y: Datum, a: Account, store: &Store) -> Decision
+    ensures { result ≡ on_handle f y a store.now }
 {
-    match y {
-        Datum::Number(_) => operands::faulty(22),
-        Datum::Label(_) => operands::faulty(22),
-        Datum::Handle(kind, p) => with_handle(f, kind, p, a, store),
-    }
+    let Datum::Handle(kind, p) = y else {
+        return operands::wrong_kind();
+    };
+    with_handle(f, kind, p, a, store)
 }
 
 // What the top two of the stack come to, with labels and records.
-pub fn on_labels(t: LabelTask, y: Datum, x: Datum, a: Account, store: &[u64]) -> Decision
-    requires { (a.next ≤ a.limit) × (length store.now ≡ words) }
-    ensures { result ≡ on_labels t y x a (slots store.now) }
+pub fn on_labels(t: LabelTask, y: Datum, x: Datum, a: Account, store: &Store) -> Decision
+    ensures { result ≡ on_labels t y x a store.now }
 {
     match t {
         LabelTask::Pair(f) => operands::two_labels(f, y, x),
@@ -278,9 +244,14 @@ pub fn on_labels(t: LabelTask, y: Datum, x: Datum, a: Account, store: &[u64]) ->
 // ---- where a label lies
 
 // The label that is to be pushed.
-pub fn label_from(o: Origin, label: Label, clearance: Label, labels: &[u64], store: &[u64]) -> Label
-    requires { (length labels.now ≡ file_words) × (length store.now ≡ words) }
-    ensures { result ≡ label_from o label clearance labels.now (slots store.now) }
+pub fn label_from(
+    o: Origin,
+    label: Label,
+    clearance: Label,
+    labels: &[Label; FILE_LABELS],
+    store: &Store,
+) -> Label
+    ensures { result ≡ label_from o label clearance labels.now store.now }
 {
     match o {
         Origin::File(i) => operands::label_at(labels, i),
@@ -300,31 +271,30 @@ pub fn paired(f: Both, m: Label, l: Label) -> Label
     }
 }
 
-// The label that a fault leaves.
-pub fn raised(label: Label, by: By, store: &[u64]) -> Label
-    requires { length store.now ≡ words }
-    ensures { result ≡ raised_by label by (slots store.now) }
+// The label that a fault leaves, raised by the label of the record at a place, if there is one.
+pub fn raised(label: Label, by: Option<usize>, store: &Store) -> Label
+    ensures { result ≡ raised_by label by store.now }
 {
-    match by {
-        By::None => label,
-        By::Record(p) => labels::join(label, store::label_of(store, p)),
-    }
+    let Some(p) = by else {
+        return label;
+    };
+    labels::join(label, store::label_of(store, p))
 }
 
 // ---- what is kept
 
 // Puts a value under a label at a place.
-pub fn keep(kind: Kind, l: Label, d: Datum, p: usize, store: &mut [u64])
-    requires { length store.old ≡ words }
-    ensures { slots store.new ≡ set (slots store.old) p (holding kind l (Contents.Value d)) }
+pub fn keep(kind: Kind, label: Label, d: Datum, p: usize, store: &mut Store)
+    ensures { store.new ≡ set store.old p (holding kind label (Contents.Value d)) }
 {
+    let contents = Contents::Value(d);
     store::save(
         store,
         p,
         Record {
             kind,
-            label: l,
-            contents: Contents::Value(d),
+            label,
+            contents,
         },
     );
 }
@@ -335,19 +305,18 @@ fn outcome(label: Label, e: Ending, b: Label) -> Contents
     ensures { result ≡ sealed_of label e b }
 {
     if !labels::flows(label, b) {
-        return Contents::Fault(31, 0);
+        return Contents::Fault(FaultCode::PastBound as u32, 0);
     }
     match e {
         Ending::Result(d) => Contents::Value(d),
         Ending::Fault(code, number) => Contents::Fault(code, number),
-        Ending::Spent => Contents::Fault(32, 0),
+        Ending::Spent => Contents::Fault(FaultCode::BlockSpent as u32, 0),
     }
 }
 
 // Seals what a body came to, under its bound.
-pub fn conclude(b: Label, label: Label, e: Ending, p: usize, store: &mut [u64])
-    requires { length store.old ≡ words }
-    ensures { slots store.new ≡ set (slots store.old) p (holding Kind.Sealed b (sealed_of label e b)) }
+pub fn conclude(b: Label, label: Label, e: Ending, p: usize, store: &mut Store)
+    ensures { store.new ≡ set store.old p (holding Kind.Sealed b (sealed_of label e b)) }
 {
     store::save(
         store,

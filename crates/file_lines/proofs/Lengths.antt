@@ -1,11 +1,10 @@
 -- How long a view, its line and the lines of a file get. Assumes nothing.
 use mathlib.Core.Bool.{Bool}
 use mathlib.Core.List.{List}
-use mathlib.Core.Path.{◌≡◌, sym, ap}
+use mathlib.Core.Path.{◌≡◌}
 use Prim.Native.Nat.{ℕ, zero, suc, ◌+◌, ◌*◌, ◌≤◌}
-use native.Mathlib.Nat.{le_refl}
 use native.Mathlib.Omega.{arith}
-use lib.ListN.{length, take, drop, length-append}
+use lib.ListN.{length, length-append}
 use Rattle.labels.specs.Order.{flows}
 use Rattle.labels.specs.declared.Label.{Label}
 use Rattle.model.specs.State.{Outcome}
@@ -16,7 +15,6 @@ use Rattle.view.specs.Reading.{file_view, file_view_over}
 use Rattle.view.proofs.Widths.{length_view}
 use Rattle.view.proofs.LengthField.{count_field, shown_most}
 use Rattle.lines.specs.Lines.{line, lines}
-use Rattle.lines.specs.Cutting.{Cut}
 use Rattle.lines.proofs.Printing.{length_line}
 use Rattle.file_lines.specs.Room.{longest_line}
 
@@ -28,20 +26,10 @@ module _ (Reads : Label → Bool) where
     unfolding length_over
     long = length_view Reads s o
 
-    whole : Cut (206 + 132 * records_shown Reads o.store) (view Reads s o) (length (view Reads s o))
-    whole =
-        record {
-          within = le_refl (length (view Reads s o));
-          few = omega (arith, long);
-          taken = ap (λ (n : ℕ). take n (view Reads s o)) long;
-          dropped = ap (λ (n : ℕ). drop n (view Reads s o)) long;
-        }
-
     pub line_most : length o.store ≤ 256 → length (line (view Reads s o)) ≤ longest_line
     line_most le =
         let n = shown_most Reads o.store in
-        let e = length_line (view Reads s o) (records_shown Reads o.store) (length (view Reads s o)) (sym (count_field Reads s o (omega arith))) whole in
-        omega (arith, long)
+        omega (arith, long, length_line (view Reads s o), count_field Reads s o (omega arith))
 
 -- ── the lines of a file ──
 

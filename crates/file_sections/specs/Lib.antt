@@ -1,4 +1,5 @@
 -- The definition of what a plain file and a day have in common. Read in this order.
 pub mod Sections
 pub mod Checks
-pub mod Words
+pub mod Labels
+pub mod Refusals

@@ -1,12 +1,9 @@
 -- The sections that a plain file and a day both have: labels, from a byte on up to the records, and input records.
-use Rattle.std.specs.Prelude.{List, [], ◌∷◌, ℕ, zero, suc, ◌+◌, ◌-◌, ◌*◌, get_or, take, drop}
-use Rattle.std.proofs.Math.Option.{Option, none, some}
+use Rattle.std.specs.Prelude.{List, [], ◌∷◌, ℕ, zero, suc, ◌+◌, ◌-◌, ◌*◌, get_or, take, drop, Option, Some, None}
 use Rattle.labels.specs.Tables.{principals}
 use Rattle.labels.specs.Order.{no_label}
 use Rattle.label_entries.specs.Entries.{read_entry_over}
 use Rattle.labels.specs.declared.Label.{Label}
-use Rattle.label_entries.specs.declared.Entry.{Entry}
-use Rattle.label_entries.specs.declared.Entry.TheVariants.{Read, Malformed}
 use Rattle.model.specs.Decoding.{u16}
 use Rattle.model.specs.Inputs.{Input, inputs}
 use Rattle.file_sections.specs.declared.Section.{Section}
@@ -30,16 +27,16 @@ record_bytes_of s bs = take (6 * s.records.count) (drop s.records.offset bs)
 -- ── labels ──
 
 abbrev pub cons_label : Label → Option (List Label) → Option (List Label)
-cons_label l none = none
-cons_label l (some ls) = some (l ∷ ls)
+cons_label l None = None
+cons_label l (Some ls) = Some (l ∷ ls)
 
-abbrev pub labels_after : (ℕ → Option (List Label)) → Entry → Option (List Label)
-labels_after rest (Read l k) = cons_label l (rest k)
-labels_after rest Malformed = none
+abbrev pub labels_after : (ℕ → Option (List Label)) → Option (Label × ℕ) → Option (List Label)
+labels_after rest None = None
+labels_after rest (Some e) = cons_label e.0 (rest e.1)
 
 abbrev none_left : List ℕ → Option (List Label)
-none_left [] = some []
-none_left (b ∷ bs) = none
+none_left [] = Some []
+none_left (b ∷ bs) = None
 
 -- k label entries over n principals, and no byte behind them
 unfoldable pub read_labels_over : ℕ → ℕ → List ℕ → Option (List Label)
@@ -56,8 +53,8 @@ abbrev pub labels_of : Sections → List ℕ → Option (List Label)
 labels_of = labels_over principals
 
 abbrev pub or_none : Option (List Label) → List Label
-or_none none = []
-or_none (some ls) = ls
+or_none None = []
+or_none (Some ls) = ls
 
 -- label i of a file; past its labels, and of a file whose labels are malformed, ⟨False, False⟩
 unfoldable pub label_of_over : ℕ → Sections → List ℕ → ℕ → Label

@@ -1,21 +1,14 @@
 -- Steps of the loop that tells a maximal false point of a table. Assumes nothing.
-use mathlib.Core.Path.{◌≡◌, sym, ap, ◌∙◌, subst}
+use mathlib.Core.Path.{◌≡◌, sym, ap, subst}
 use mathlib.Core.Bool.{Bool, true, false, not, ◌&&◌}
-use Prim.Native.Nat.{ℕ, ◌+◌, ◌*◌, ◌%◌, ◌^◌, ◌<◌}
-use native.Mathlib.Nat.{one-mul}
+use Prim.Native.Nat.{ℕ, ◌+◌, ◌<◌}
 use native.Mathlib.Numerals.{add-one}
-use native.Mathlib.Omega.{arith}
 use lib.Dec.{T}
-use lib.Pow.{shl_exact}
 use Rattle.formulas.specs.Bits.{bit}
 use Rattle.labels.specs.Tables.{principals}
 use Rattle.formulas.specs.Normal.{all_below, passes_with, maximal_false}
 use Rattle.formulas.proofs.Lists.{all_below_at}
 use Rattle.formulas.proofs.Tests.{T_and, T_right, T_same, T_eq, T_true}
-
--- `1 << p`
-pub one_shifted : (p : ℕ) → p < principals → (1 * 2 ^ p) % 2 ^ 64 ≡ 2 ^ p
-one_shifted p h = shl_exact 1 p 64 (omega arith) (omega arith) ∙ one-mul (2 ^ p)
 
 -- ---- the loop over the principals that may be added to x
 

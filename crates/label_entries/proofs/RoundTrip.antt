@@ -6,6 +6,7 @@ use mathlib.Core.List.{List, [], ◌∷◌, ◌++◌, append_assoc}
 use Prim.Native.Nat.{ℕ, ◌+◌, ◌≤◌}
 use native.Mathlib.Omega.{arith}
 use borrow.Author.Tests.{le-leb}
+use Rattle.std.specs.Prelude.{Some, None}
 use lib.Dec.{T}
 use lib.ListN.{length, take, drop, get_or, length-append, length-drop}
 use lib.Seq.{take-append_seam, drop-append_seam, take-append-add, drop-append-add, take-add, length-take-le}
@@ -20,8 +21,6 @@ use Rattle.labels.specs.Order.{label, Formulated, Arising}
 use Rattle.label_entries.specs.Entries.{secrecy_masks, integrity_masks, entry_length, read_entry, clauses_of, entry_bytes, fits, write_answer, write_buffer}
 use Rattle.labels.specs.declared.Table.{Table}
 use Rattle.labels.specs.declared.Label.{Label}
-use Rattle.label_entries.specs.declared.Entry.TheVariants.{Read}
-use Rattle.label_entries.specs.declared.Written.TheVariants.{Bytes, TooShort}
 use Rattle.label_entries.proofs.Reading.{WellFormed, accepted, reads}
 
 -- ---- reading what was written
@@ -80,10 +79,10 @@ module _ (l : Label) (arises : Arising l) where
       }
 
   -- whatever lies behind the entry
-  pub read_written : (rest : List ℕ) → read_entry (entry_bytes l ++ rest) ≡ Read l (length (entry_bytes l))
+  pub read_written : (rest : List ℕ) → read_entry (entry_bytes l ++ rest) ≡ Some (l, length (entry_bytes l))
   read_written rest =
       sym (accepted (laid S I rest) (well rest))
-      ∙ ap₂ (λ (a : Label) (n : ℕ). Read a n)
+      ∙ ap₂ (λ (a : Label) (n : ℕ). Some (a, n))
       (λ k. record {
         secrecy = (ap (λ (cs : List ℕ). in_words (table principals cs)) (secrecy_laid S I rest) ∙ of_clauses l.secrecy arises.0) k;
         integrity = (ap (λ (cs : List ℕ). in_words (table principals cs)) (integrity_laid S I rest) ∙ of_clauses l.integrity arises.1) k;
@@ -91,13 +90,13 @@ module _ (l : Label) (arises : Arising l) where
       (omega (arith, length-append S I))
 
   -- in the buffer that was written to
-  pub read_back : (out : List ℕ) (n : ℕ) → write_answer l out ≡ Bytes n → read_entry (write_buffer l out) ≡ Read l n
+  pub read_back : (out : List ℕ) (n : ℕ) → write_answer l out ≡ Some n → read_entry (write_buffer l out) ≡ Some (l, n)
   unfolding write_answer write_buffer
   read_back out n e = go (fits l out) e
     where
-      go : (b : Bool) → cond b (Bytes (length (entry_bytes l))) TooShort ≡ Bytes n
-          → read_entry (cond b (entry_bytes l ++ drop (length (entry_bytes l)) out) out) ≡ Read l n
-      go true q = read_written (drop (length (entry_bytes l)) out) ∙ ap (Read l) (cc)
+      go : (b : Bool) → cond b (Some (length (entry_bytes l))) None ≡ Some n
+          → read_entry (cond b (entry_bytes l ++ drop (length (entry_bytes l)) out) out) ≡ Some (l, n)
+      go true q = read_written (drop (length (entry_bytes l)) out) ∙ ap (λ (k : ℕ). Some (l, k)) (cc)
       go false q = let z : ◌≡◌ {A = ℕ} 0 1 = cc in absurd (omega arith)
 
 -- ---- writing what was read
@@ -124,7 +123,7 @@ same_bytes xs w =
     (length-take-le (get_or xs 1 0) (drop (2 + get_or xs 0 0) xs) (omega (arith, length-drop (2 + get_or xs 0 0) xs, w.whole)))
     ∙ sym (entry_parts xs w)
 
-module _ (xs : List ℕ) (l : Label) (n : ℕ) (e : read_entry xs ≡ Read l n) where
+module _ (xs : List ℕ) (l : Label) (n : ℕ) (e : read_entry xs ≡ Some (l, n)) where
   -- what is read has formulas, and its entry lies within the bytes
   pub read_arises : Arising l
   read_arises =
@@ -144,10 +143,10 @@ module _ (xs : List ℕ) (l : Label) (n : ℕ) (e : read_entry xs ≡ Read l n) 
   read_length = ap length written_read ∙ length-take-le n xs read_within.1
 
   -- and written to any buffer with room they come back, with the rest of the buffer as it was
-  pub write_back : (out : List ℕ) → n ≤ length out → (write_answer l out ≡ Bytes n) × (write_buffer l out ≡ take n xs ++ drop n out)
+  pub write_back : (out : List ℕ) → n ≤ length out → (write_answer l out ≡ Some n) × (write_buffer l out ≡ take n xs ++ drop n out)
   unfolding write_answer write_buffer
   write_back out h = (
-    ap (λ (b : Bool). cond b (Bytes (length (entry_bytes l))) TooShort) takes ∙ ap Bytes read_length,
+    ap (λ (b : Bool). cond b (Some (length (entry_bytes l))) None) takes ∙ ap Some read_length,
     ap (λ (b : Bool). cond b (entry_bytes l ++ drop (length (entry_bytes l)) out) out) takes
         ∙ ap₂ (λ (z : List ℕ) (k : ℕ). z ++ drop k out) written_read read_length,
   )

@@ -6,11 +6,11 @@ use Prim.Native.Nat.{ℕ, ◌+◌, ◌-◌, ◌≤◌, ◌<◌}
 use native.Mathlib.Omega.{arith}
 use borrow.Author.Tests.{le-leb, lt-leb}
 use borrow.Rule.Slice.PartMut.{put_mid}
+use Rattle.std.specs.Prelude.{Some, None}
 use lib.ListN.{length, drop, set, length-append}
 use lib.Seq.{take_at, drop_at, drop-drop, drop-append-add}
 use Rattle.label_entries.specs.Entries.{clauses_of, entry_bytes, fits, write_answer, write_buffer}
 use Rattle.labels.specs.declared.Label.{Label}
-use Rattle.label_entries.specs.declared.Written.TheVariants.{Bytes, TooShort}
 
 -- two counts, and two lists into the parts behind them
 laid : (out S I : List ℕ) → 2 + length S + length I ≤ length out
@@ -48,9 +48,9 @@ module _ (l : Label) (out : List ℕ) (m n : ℕ) (em : m ≡ length (clauses_of
     refuses : fits l out ≡ false
     refuses = lt-leb (length (entry_bytes l)) (length out) (omega (arith, counted))
 
-    pub short_answer : TooShort ≡ write_answer l out
+    pub short_answer : None ≡ write_answer l out
     unfolding write_answer
-    short_answer = sym (ap (λ (b : Bool). cond b (Bytes (length (entry_bytes l))) TooShort) refuses)
+    short_answer = sym (ap (λ (b : Bool). cond b (Some (length (entry_bytes l))) None) refuses)
 
     pub short_buffer : out ≡ write_buffer l out
     unfolding write_buffer
@@ -60,9 +60,9 @@ module _ (l : Label) (out : List ℕ) (m n : ℕ) (em : m ≡ length (clauses_of
     takes : fits l out ≡ true
     takes = le-leb (length (entry_bytes l)) (length out) (omega (arith, counted))
 
-    pub whole_answer : Bytes (2 + m + n) ≡ write_answer l out
+    pub whole_answer : Some (2 + m + n) ≡ write_answer l out
     unfolding write_answer
-    whole_answer = ap Bytes (sym counted) ∙ sym (ap (λ (b : Bool). cond b (Bytes (length (entry_bytes l))) TooShort) takes)
+    whole_answer = ap Some (sym counted) ∙ sym (ap (λ (b : Bool). cond b (Some (length (entry_bytes l))) None) takes)
 
     in_place : entry_bytes l ++ drop (2 + length (clauses_of l.secrecy) + length (clauses_of l.integrity)) out ≡ write_buffer l out
     unfolding write_buffer

@@ -1,17 +1,11 @@
 -- Labels, label entries: what reading bytes as one gives, and what writing one leaves. Assumes nothing.
-use Rattle.std.specs.Prelude.{Bool, cond, ◌&&◌, List, ◌∷◌, ◌++◌, ℕ, ◌+◌, leb, length, take, drop, get_or}
+use Rattle.std.specs.Prelude.{Bool, cond, ◌&&◌, List, ◌∷◌, ◌++◌, ℕ, ◌+◌, leb, length, take, drop, get_or, Option, Some, None}
 use Rattle.formulas.specs.Formula.{table}
 use Rattle.formulas.specs.Normal.{canonical, most_clauses, clauses}
 use Rattle.labels.specs.Tables.{principals, whole, in_words}
 use Rattle.labels.specs.Order.{label_over}
 use Rattle.labels.specs.declared.Table.{Table}
 use Rattle.labels.specs.declared.Label.{Label}
-use Rattle.label_entries.specs.declared.Entry.{Entry}
-use Rattle.label_entries.specs.declared.Entry.TheVariants.{Read, Malformed}
-use Rattle.label_entries.specs.declared.Formula.{Formula}
-use Rattle.label_entries.specs.declared.Formula.TheVariants.{Read as ReadFormula, Malformed as MalformedFormula}
-use Rattle.label_entries.specs.declared.Written.{Written}
-use Rattle.label_entries.specs.declared.Written.TheVariants.{Bytes, TooShort}
 
 -- ---- reading
 
@@ -36,18 +30,18 @@ well_formed_over n xs =
     && canonical n (secrecy_masks xs)
     && canonical n (integrity_masks xs)
 
--- the entry at the start of xs, over n principals and over those that there are
-unfoldable pub read_entry_over : ℕ → List ℕ → Entry
+-- the label that the entry at the start of xs gives, and the entry's length, over n principals and over those that there are
+unfoldable pub read_entry_over : ℕ → List ℕ → Option (Label × ℕ)
 read_entry_over n xs =
-    cond (well_formed_over n xs) (Read (label_over n (secrecy_masks xs) (integrity_masks xs)) (entry_length xs)) Malformed
+    cond (well_formed_over n xs) (Some (label_over n (secrecy_masks xs) (integrity_masks xs), entry_length xs)) None
 
-abbrev pub read_entry : List ℕ → Entry
+abbrev pub read_entry : List ℕ → Option (Label × ℕ)
 read_entry = read_entry_over principals
 
 -- one formula of an entry, by its masks
-unfoldable pub read_formula : List ℕ → Formula
+unfoldable pub read_formula : List ℕ → Option Table
 read_formula ms =
-    cond (leb (length ms) (most_clauses principals) && canonical principals ms) (ReadFormula (in_words (table principals ms))) MalformedFormula
+    cond (leb (length ms) (most_clauses principals) && canonical principals ms) (Some (in_words (table principals ms))) None
 
 -- ---- writing
 
@@ -63,8 +57,8 @@ entry_bytes l =
 abbrev pub fits : Label → List ℕ → Bool
 fits l out = leb (length (entry_bytes l)) (length out)
 
-unfoldable pub write_answer : Label → List ℕ → Written
-write_answer l out = cond (fits l out) (Bytes (length (entry_bytes l))) TooShort
+unfoldable pub write_answer : Label → List ℕ → Option ℕ
+write_answer l out = cond (fits l out) (Some (length (entry_bytes l))) None
 
 -- the buffer afterwards: the entry at its start and the rest as it was, or all as it was
 unfoldable pub write_buffer : Label → List ℕ → List ℕ

@@ -4,5 +4,4 @@ pub mod Gaps
 pub mod Halves
 pub mod Laws
 pub mod Published
-pub mod Words
 pub mod Cases

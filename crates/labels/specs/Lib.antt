@@ -2,5 +2,3 @@
 pub mod Tables
 pub mod Order
 pub mod Cases
--- How the code holds labels in words.
-pub mod Words

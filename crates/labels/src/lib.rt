@@ -1,16 +1,16 @@
 // Labels, their order, join and meet.
 #![tactic(auto)]
 
-ghost use Rattle.std.specs.Prelude.{◌≡◌, cond, ◌+◌, ◌-◌, ◌^◌, ◌≤◌, length};
+ghost use Rattle.std.specs.Prelude.{◌≡◌, cond, ◌+◌, ◌-◌, ◌^◌};
 ghost use Rattle.std.specs.Int.Bits.{bit_and};
 ghost use Rattle.labels.specs.Tables.{table_implies, table_and, table_or, lowest};
 ghost use Rattle.labels.specs.Order.{flow_test, flows, join, meet, no_label};
-ghost use Rattle.labels.specs.Words.{words_in_table, words_in_label, table_from, label_from, with_table, with_label};
 
 // How many principals there are.
 pub const PRINCIPALS: u64 = 8;
 
-// A formula's table: bit i of the whole stands for the set of principals whose mask is i. Four words, lowest first.
+// A formula's table: bit i of the whole stands for the set of principals whose mask is i. Four words, lowest first, since the
+// requirement has formulas as such words.
 #[derive(Clone, Copy)]
 pub struct Table {
     pub word0: u64,
@@ -29,7 +29,8 @@ pub struct Label {
 // ---- labels
 
 // What keeps ⟨S, I⟩ from flowing to ⟨S', I'⟩: 1 where S' does not imply S (secrecy), 2 where I does not imply I'
-// (integrity), 3 where both fail, and 0 where it flows.
+// (integrity), 3 where both fail, and 0 where it flows. A number, since a fault tells it to the script as one.
+#[tactic(auto, unfolding(crate::specs::Order::flow_test))]
 pub fn flow_test(a: Label, b: Label) -> u32
     ensures { result ≡ flow_test a b }
 {
@@ -43,6 +44,7 @@ pub fn flows(a: Label, b: Label) -> bool
 }
 
 // The least label that both flow to: ⟨S and S', I or I'⟩.
+#[tactic(auto, unfolding(crate::specs::Order::join))]
 pub fn join(a: Label, b: Label) -> Label
     ensures { result ≡ join a b }
 {
@@ -53,6 +55,7 @@ pub fn join(a: Label, b: Label) -> Label
 }
 
 // The greatest label that flows to both: ⟨S or S', I and I'⟩.
+#[tactic(auto, unfolding(crate::specs::Order::meet))]
 pub fn meet(a: Label, b: Label) -> Label
     ensures { result ≡ meet a b }
 {
@@ -73,6 +76,7 @@ pub fn no_label() -> Label
 }
 
 // ---- tables, word by word
+// Each function writes its four words out: one over a closure needs a contract about the closure, and is no plainer.
 
 // 0 where the table `a` implies the table `b`, that is, every set in `a` is in `b`; else the half's number n.
 fn failing(a: Table, b: Table, n: u32) -> u32
@@ -135,49 +139,5 @@ pub fn low_table(n: u64) -> Table
     }
 }
 
-// ---- tables and labels among words
-
-// How many words each takes. A word has a bit for each set of the first six principals.
+// How many words a table takes. A word has a bit for each set of the first six principals.
 pub const TABLE_WORDS: usize = 1 << (PRINCIPALS - 6);
-
-pub const LABEL_WORDS: usize = 2 * TABLE_WORDS;
-
-pub fn table_from(words: &[u64], b: usize) -> Table
-    requires { b + words_in_table ≤ length words.now }
-    ensures { result ≡ table_from words.now b }
-{
-    Table {
-        word0: words[b],
-        word1: words[b + 1],
-        word2: words[b + 2],
-        word3: words[b + 3],
-    }
-}
-
-pub fn label_from(words: &[u64], b: usize) -> Label
-    requires { b + words_in_label ≤ length words.now }
-    ensures { result ≡ label_from words.now b }
-{
-    Label {
-        secrecy: table_from(words, b),
-        integrity: table_from(words, b + TABLE_WORDS),
-    }
-}
-
-pub fn put_table(t: Table, words: &mut [u64], b: usize)
-    requires { b + words_in_table ≤ length words.old }
-    ensures { words.new ≡ with_table t words.old b }
-{
-    words[b] = t.word0;
-    words[b + 1] = t.word1;
-    words[b + 2] = t.word2;
-    words[b + 3] = t.word3;
-}
-
-pub fn put_label(l: Label, words: &mut [u64], b: usize)
-    requires { b + words_in_label ≤ length words.old }
-    ensures { words.new ≡ with_label l words.old b }
-{
-    put_table(l.secrecy, words, b);
-    put_table(l.integrity, words, b + TABLE_WORDS);
-}

@@ -8,9 +8,11 @@ ghost use Rattle.lines.specs.Lines.{line};
 
 // Writes the line of a view to the start of `buffer` and gives its length. Where the buffer is shorter than the line, it
 // stays as it was, and the answer is 0.
+#[tactic(auto, unfolding(view::specs::Writing::shown_in))]
 #[unsafe(no_mangle)]
 pub extern "C" fn nechwalu_line(view: &[u8], buffer: &mut [u8]) -> usize
-    ensures { (result ≡ cond (leb (length (line view.now)) (length buffer.old)) (length (line view.now)) 0) × (buffer.new ≡ shown_in (line view.now) buffer.old) }
+    ensures count { result ≡ cond (leb (length (line view.now)) (length buffer.old)) (length (line view.now)) 0 }
+    ensures shown { buffer.new ≡ shown_in (line view.now) buffer.old }
 {
     if buffer.len() < lines::line_length(view) {
         return 0;

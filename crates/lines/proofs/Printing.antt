@@ -1,16 +1,15 @@
 -- The fields of a line: their lengths, and what is left of them as a line is written. Assumes nothing.
 use mathlib.Core.Path.{◌≡◌, refl, sym, ap, ap₂, ◌∙◌}
 use mathlib.Core.List.{List, [], ◌∷◌, ◌++◌, append_assoc}
-use Prim.Native.Nat.{ℕ, zero, suc, ◌+◌, ◌-◌, ◌*◌, ◌≤◌, ◌<◌, ◌/◌, ◌%◌}
+use Prim.Native.Nat.{ℕ, zero, suc, ◌+◌, ◌-◌, ◌*◌, ◌≤◌, ◌<◌, ◌/◌, ◌%◌, min}
 use native.Mathlib.Omega.{arith}
 use borrow.Author.Tests.{lt-ltb, le-ltb}
-use lib.ListN.{length, get_or, take, drop, length-append, length-drop}
-use lib.Seq.{drop-drop, take-add, length-take-le}
+use lib.ListN.{length, get_or, take, drop, length-append, length-drop, length-take}
+use lib.Seq.{drop-drop, take-add}
 use Rattle.model.specs.Decoding.{u16}
-use Rattle.lines.specs.Lines.{hex_digit, hex, front_fields, record_field_widths, widths, spaced, line, digits, decimal, refused_line}
-use Rattle.view_fields.specs.Writing.{over}
-use Rattle.lines.specs.Cutting.{Cut}
-use Rattle.view_fields.proofs.Buffers.{Writing, from_here, first, part, part_drop}
+use Rattle.lines.specs.Lines.{hex_digit, hex, front_fields, record_field_widths, widths, spaced, line, digits, decimal}
+use Rattle.lines.specs.Lines.{refused_line}
+use Rattle.std.proofs.lemmas.List.{at_drop_more}
 
 -- ── digits ──
 
@@ -22,7 +21,7 @@ length_hex (b ∷ bs) = let e = length_hex bs in omega arith
 pub hex_here : (bs : List ℕ) (i : ℕ) → i < length bs
     → hex (drop i bs) ≡ hex_digit (get_or bs i 0 / 16) ∷ hex_digit (get_or bs i 0 % 16) ∷ hex (drop (i + 1) bs)
 unfolding hex
-hex_here bs i h = ap hex (from_here bs 0 i h)
+hex_here bs i h = at_drop_more hex bs i 0 h
 
 -- ── fields ──
 
@@ -59,19 +58,21 @@ spaced_append : (xs ys bs : List ℕ) → spaced (xs ++ ys) bs ≡ spaced xs bs 
 unfolding spaced
 spaced_append [] ys bs = refl
 spaced_append (x ∷ xs) ys bs =
-    ap (λ (v : List ℕ). (0x20 ∷ hex (take x bs)) ++ v) (spaced_append xs ys (drop x bs) ∙ ap (λ (v : List ℕ). spaced xs (drop x bs) ++ spaced ys v) (drop-drop (total xs) x bs))
+    ap (λ (v : List ℕ). (0x20 ∷ hex (take x bs)) ++ v)
+    (spaced_append xs ys (drop x bs) ∙ ap (λ (v : List ℕ). spaced xs (drop x bs) ++ spaced ys v) (drop-drop (total xs) x bs))
     ∙ sym (append_assoc (0x20 ∷ hex (take x bs)) (spaced xs (drop x bs)) (spaced ys (drop (x + total xs) bs)))
 
--- the field at j, of which n bytes are there
-pub spaced_here : (ws rest : List ℕ) (j n : ℕ) → j < length ws → Cut (get_or ws j 0) rest n
-    → spaced (drop j ws) rest ≡ (0x20 ∷ hex (take n rest)) ++ spaced (drop (j + 1) ws) (part n rest)
+-- the field at j, f, and the bytes b behind it
+pub spaced_here : (ws rest : List ℕ) (j : ℕ) → j < length ws → {f b : List ℕ} → f ≡ take (get_or ws j 0) rest
+    → b ≡ drop (get_or ws j 0) rest
+    → spaced (drop j ws) rest ≡ (0x20 ∷ hex f) ++ spaced (drop (j + 1) ws) b
 unfolding spaced
-spaced_here ws rest j n h k =
-    ap (λ (v : List ℕ). spaced v rest) (from_here ws 0 j h)
-    ∙ ap₂ (λ (u v : List ℕ). (0x20 ∷ hex u) ++ spaced (drop (j + 1) ws) v) (sym k.taken) (sym (part_drop n rest ∙ k.dropped))
+spaced_here ws rest j h d e =
+    at_drop_more (λ (v : List ℕ). spaced v rest) ws j 0 h
+    ∙ ap₂ (λ (u v : List ℕ). (0x20 ∷ hex u) ++ spaced (drop (j + 1) ws) v) (sym d) (sym e)
 
-pub length_field : (w : ℕ) (rest : List ℕ) (n : ℕ) → Cut w rest n → length (0x20 ∷ hex (take n rest)) ≡ 1 + 2 * n
-length_field w rest n k = let e = length_hex (take n rest) in let f = length-take-le n rest k.within in omega arith
+pub length_field : (f : List ℕ) → length (0x20 ∷ hex f) ≡ 1 + 2 * length f
+length_field f = let e = length_hex f in omega arith
 
 -- the fields of the next of m records, k more of which follow
 pub record_here : (rest : List ℕ) (m k : ℕ) → m ≡ suc k
@@ -92,39 +93,29 @@ regroup : (a b c d : List ℕ) → (a ++ (b ++ c)) ++ d ≡ a ++ (b ++ (c ++ d))
 regroup a b c d = simp append_assoc
 
 -- the first field, the others before the records, the records', a line feed
-pub line_parts : (v : List ℕ) (k m : ℕ) → Cut 2 v k → Cut 206 v m
-    → line v ≡ hex (take k v) ++ (spaced behind_first (drop k v) ++ (spaced (widths (u16 v 6)) (drop m v) ++ (0x0A ∷ [])))
+pub line_parts : (v : List ℕ) → line v ≡ hex (take 2 v)
+    ++ (spaced behind_first (drop 2 v) ++ (spaced (widths (u16 v 6)) (drop 206 v) ++ (0x0A ∷ [])))
 unfolding line front_fields
-line_parts v k m c d =
+line_parts v =
     let n = u16 v 6 in
-    let rest = spaced_append behind_first (widths n) (drop 2 v) ∙ ap (λ (x : List ℕ). spaced behind_first (drop 2 v) ++ spaced (widths n) x) (drop-drop 204 2 v) in
-    ap (λ (x : List ℕ). x ++ (0x0A ∷ [])) (spaced_first 2 (behind_first ++ widths n) v ∙ ap (λ (x : List ℕ). hex (take 2 v) ++ x) rest)
+    let records = ap (λ (x : List ℕ). spaced behind_first (drop 2 v) ++ spaced (widths n) x) (drop-drop 204 2 v) in
+    let rest = spaced_append behind_first (widths n) (drop 2 v) ∙ records in
+    ap (λ (x : List ℕ). x ++ (0x0A ∷ [])) (spaced_first 2 (behind_first ++ widths n) v
+    ∙ ap (λ (x : List ℕ). hex (take 2 v) ++ x) rest)
     ∙ regroup (hex (take 2 v)) (spaced behind_first (drop 2 v)) (spaced (widths n) (drop 206 v)) (0x0A ∷ [])
-    ∙ sym (rw (c.taken, c.dropped, d.dropped))
 
--- the first field is written
-pub first_field : (v b b' : List ℕ) (k m n : ℕ) → Cut 2 v k → Cut 206 v m → n ≡ u16 v 6 → length (line v) ≤ length b → b' ≡ over (hex (take k v)) b
-    → Writing (line v) (spaced behind_first (part k v) ++ (spaced (widths n) (part m v) ++ (0x0A ∷ []))) b b' (2 * k)
-first_field v b b' k m n c d e h q =
-    first (hex (take k v)) whole digits (let f = ap length whole ∙ length-append (hex (take k v)) _ in omega (arith, digits)) q
-  where
-    whole : line v ≡ hex (take k v) ++ (spaced behind_first (part k v) ++ (spaced (widths n) (part m v) ++ (0x0A ∷ [])))
-    whole = line_parts v k m c d ∙ rw (part_drop k v, part_drop m v, e)
-
-    digits : length (hex (take k v)) ≡ 2 * k
-    digits = length_hex (take k v) ∙ ap (λ (x : ℕ). 2 * x) (length-take-le k v c.within)
-
-pub length_line : (v : List ℕ) (n r : ℕ) → n ≡ u16 v 6 → Cut (206 + 132 * n) v r → 13 + 7 * n + 2 * r ≡ length (line v)
+pub length_line : (v : List ℕ) → 13 + 7 * u16 v 6 + 2 * min (206 + 132 * u16 v 6) (length v) ≡ length (line v)
 unfolding line front_fields
-length_line v n r e c =
+length_line v =
     let k = u16 v 6 in
     let ws = front_fields ++ widths k in
     let a = length-append (drop 1 (spaced ws v)) (0x0A ∷ []) in
     let b = length-drop 1 (spaced ws v) in
     let s = length_spaced ws v in
     let l = length_widths k in
-    let t : total ws ≡ 206 + 132 * n = total_append front_fields (widths k) ∙ (let f = total_widths k in omega arith) in
-    let g : length (take (total ws) v) ≡ r = ap (λ (x : ℕ). length (take x v)) t ∙ ap length (sym c.taken) ∙ length-take-le r v c.within in
+    let t : total ws ≡ 206 + 132 * k = total_append front_fields (widths k) ∙ (let f = total_widths k in omega arith) in
+    let g : length (take (total ws) v) ≡ min (206 + 132 * k) (length v) = length-take (total ws) v
+    ∙ ap (λ (x : ℕ). min x (length v)) t in
     omega arith
 
 -- ── a refusal ──

@@ -1,3 +1,2 @@
--- The definition of the printed lines. Cutting has the term in which the contracts of the code speak of too few bytes.
+-- The definition of the printed lines.
 pub mod Lines
-pub mod Cutting

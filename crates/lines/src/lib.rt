@@ -2,12 +2,13 @@
 // buffer that the caller lends.
 #![tactic(auto)]
 
-ghost use Rattle.std.specs.Prelude.{◌≡◌, ◌∷◌, ◌+◌, ◌*◌, ◌≤◌, ◌<◌, length};
+ghost use Rattle.std.specs.Prelude.{◌≡◌, ◌∷◌, ◌+◌, ◌*◌, ◌≤◌, ◌<◌, length, take, drop};
 ghost use Rattle.model.specs.Decoding.{u16};
+ghost use Rattle.file_sections.specs.Refusals.{refusal_number};
 ghost use Rattle.view_fields.specs.Writing.{over};
 ghost use Rattle.lines.specs.Lines.{hex_digit, hex, spaced, widths, line, refused_line};
-ghost use Rattle.lines.specs.Cutting.{Cut};
 
+use file_sections::Refusal;
 use view::{RECORDS, SHOWN};
 use view_fields::{NUMBER, RECORD, TABLE};
 
@@ -22,19 +23,18 @@ const FIELDS: [usize; 7] = [1, 1, TABLE, TABLE, 2, TABLE, TABLE];
 fn records_in(view: &[u8]) -> usize
     ensures { (result < 65536) × (result ≡ u16 view.now 6) }
 {
-    decode::u16_at(view, SHOWN) as usize
+    usize::from(decode::u16_at(view, SHOWN))
 }
 
-// How many of `width` bytes there are.
-fn cut(width: usize, bytes: &[u8]) -> usize
-    ensures { Cut width bytes.now result }
+// The first `width` bytes, or as many as there are, and those behind them.
+fn parted(bytes: &[u8], width: usize) -> (&[u8], &[u8])
+    ensures first { result.0.now ≡ take width bytes.now }
+    ensures behind { result.1.now ≡ drop width bytes.now }
 {
-    if width <= bytes.len() {
-        return width;
-    }
-    bytes.len()
+    bytes.split_at(width.min(bytes.len()))
 }
 
+// By two cases, as the definition has it; `char::from_digit` gives a character, which would be cut to a byte.
 fn hex_digit(d: u8) -> u8
     requires { d < 16 }
     ensures { result ≡ hex_digit d }
@@ -50,13 +50,8 @@ fn write_hex(bytes: &[u8], out: &mut [u8])
     requires { 2 * length bytes.now ≤ length out.old }
     ensures { out.new ≡ over (hex bytes.now) out.old }
 {
-    let mut at = 0;
-    let mut i = 0;
-    while i < bytes.len() {
-        let b = bytes[i];
-        view_fields::write_pair(hex_digit(b >> 4), hex_digit(b & 15), &mut out[at..]);
-        at += 2;
-        i += 1;
+    for (i, &b) in bytes.iter().enumerate() {
+        view_fields::write_pair(hex_digit(b >> 4), hex_digit(b & 15), &mut out[2 * i..]);
     }
 }
 
@@ -72,17 +67,16 @@ fn write_field(field: &[u8], out: &mut [u8])
 // Writes the fields of these widths, and gives how many bytes that is.
 fn write_fields(widths: &[usize], bytes: &[u8], out: &mut [u8]) -> usize
     requires { length (spaced widths.now bytes.now) ≤ length out.old }
-    ensures { (result ≡ length (spaced widths.now bytes.now)) × (out.new ≡ over (spaced widths.now bytes.now) out.old) }
+    ensures count { result ≡ length (spaced widths.now bytes.now) }
+    ensures written { out.new ≡ over (spaced widths.now bytes.now) out.old }
 {
     let mut rest = bytes;
     let mut at = 0;
-    let mut j = 0;
-    while j < widths.len() {
-        let n = cut(widths[j], rest);
-        write_field(&rest[..n], &mut out[at..]);
-        at += 1 + 2 * n;
-        rest = &rest[n..];
-        j += 1;
+    for &width in widths {
+        let (field, behind) = parted(rest, width);
+        write_field(field, &mut out[at..]);
+        at += 1 + 2 * field.len();
+        rest = behind;
     }
     at
 }
@@ -90,17 +84,14 @@ fn write_fields(widths: &[usize], bytes: &[u8], out: &mut [u8]) -> usize
 // Writes the fields of `count` records, and gives how many bytes that is.
 fn write_record_fields(count: usize, bytes: &[u8], out: &mut [u8]) -> usize
     requires { length (spaced (widths count) bytes.now) ≤ length out.old }
-    ensures { (result ≡ length (spaced (widths count) bytes.now)) × (out.new ≡ over (spaced (widths count) bytes.now) out.old) }
+    ensures count { result ≡ length (spaced (widths count) bytes.now) }
+    ensures written { out.new ≡ over (spaced (widths count) bytes.now) out.old }
 {
-    let fields = FIELDS;
     let mut rest = bytes;
     let mut at = 0;
-    let mut i = 0;
-    while i < count {
-        at += write_fields(&fields, rest, &mut out[at..]);
-        let n = cut(RECORD, rest);
-        rest = &rest[n..];
-        i += 1;
+    for _ in 0..count {
+        at += write_fields(&FIELDS, rest, &mut out[at..]);
+        rest = parted(rest, RECORD).1;
     }
     at
 }
@@ -108,16 +99,15 @@ fn write_record_fields(count: usize, bytes: &[u8], out: &mut [u8]) -> usize
 // Writes the line of a view, and gives how many bytes that is.
 pub fn write_line(view: &[u8], out: &mut [u8]) -> usize
     requires { length (line view.now) ≤ length out.old }
-    ensures { (result ≡ length (line view.now)) × (out.new ≡ over (line view.now) out.old) }
+    ensures count { result ≡ length (line view.now) }
+    ensures written { out.new ≡ over (line view.now) out.old }
 {
-    let front = FRONT;
-    let first = cut(NUMBER, view);
-    let records = cut(RECORDS, view);
-    let n = records_in(view);
-    write_hex(&view[..first], out);
-    let middle = 2 * first;
-    let last = middle + write_fields(&front[1..], &view[first..], &mut out[middle..]);
-    let end = last + write_record_fields(n, &view[records..], &mut out[last..]);
+    let (first, behind) = parted(view, NUMBER);
+    write_hex(first, out);
+    let middle = 2 * first.len();
+    let last = middle + write_fields(&FRONT[1..], behind, &mut out[middle..]);
+    let records = parted(view, RECORDS).1;
+    let end = last + write_record_fields(records_in(view), records, &mut out[last..]);
     out[end] = b'\n';
     end + 1
 }
@@ -127,28 +117,25 @@ pub fn line_length(view: &[u8]) -> usize
     ensures { result ≡ length (line view.now) }
 {
     let n = records_in(view);
-    13 + 7 * n + 2 * cut(RECORDS + RECORD * n, view)
+    13 + 7 * n + 2 * view.len().min(RECORDS + RECORD * n)
 }
 
+#[tactic(auto, unfolding(view_fields::specs::Writing::over))]
 pub fn write_bytes(bytes: &[u8], out: &mut [u8])
     requires { length bytes.now ≤ length out.old }
     ensures { out.new ≡ over bytes.now out.old }
 {
-    let mut i = 0;
-    while i < bytes.len() {
-        out[i] = bytes[i];
-        i += 1;
-    }
+    out[..bytes.len()].copy_from_slice(bytes);
 }
 
 // Writes the line of a file that is refused with the number `n`, and gives how many bytes that is. No check has a number
 // of 20 or more, so the first of two digits is 1.
 pub fn write_refused(n: u8, out: &mut [u8]) -> usize
     requires { (n < 20) × (11 ≤ length out.old) }
-    ensures { (result ≡ length (refused_line n)) × (out.new ≡ over (refused_line n) out.old) }
+    ensures count { result ≡ length (refused_line n) }
+    ensures written { out.new ≡ over (refused_line n) out.old }
 {
-    let text = [b'r', b'e', b'f', b'u', b's', b'e', b'd', b' '];
-    write_bytes(&text, out);
+    write_bytes(b"refused ", out);
     if n < 10 {
         view_fields::write_pair(b'0' + n, b'\n', &mut out[8..]);
         return 10;
@@ -156,4 +143,13 @@ pub fn write_refused(n: u8, out: &mut [u8]) -> usize
     out[8] = b'1';
     view_fields::write_pair(b'0' + (n - 10), b'\n', &mut out[9..]);
     11
+}
+
+// The same by the refusal.
+pub fn write_refusal(refusal: Refusal, out: &mut [u8]) -> usize
+    requires { 11 ≤ length out.old }
+    ensures count { result ≡ length (refused_line (refusal_number refusal)) }
+    ensures written { out.new ≡ over (refused_line (refusal_number refusal)) out.old }
+{
+    write_refused(u64::from(refusal) as u8, out)
 }

@@ -1,4 +1,5 @@
 -- Each effect, applied to the state in place, does what `settle` says.
+use Rattle.std.specs.Prelude.{Option}
 use mathlib.Core.Path.{◌≡◌, sym, ap, ◌∙◌}
 use mathlib.Core.List.{List}
 use Prim.Native.Nat.{ℕ, ◌+◌, ◌-◌, min, ◌≤◌, ◌<◌}
@@ -16,14 +17,13 @@ use Rattle.model.specs.declared.Frame.{Frame}
 use Rattle.model.specs.declared.Contents.TheVariants.{Value as Holds}
 use Rattle.model.specs.declared.Ending.{Ending}
 use Rattle.model.specs.declared.Ending.TheVariants.{Result, Fault as Faulted}
-use Rattle.model.specs.State.{Control, Store, Outcome, at, number, value, push, with_frames, with_label, with_next}
+use Rattle.model.specs.State.{Control, Store, Program, Outcome, at, number, value, push, with_frames, with_label, with_next}
 use Rattle.model.specs.declared.Account.{Account}
 use Rattle.model.specs.Effects.{go, fail, fail_to, holding, outcome, body_account, seal_outcome}
 use Rattle.model.specs.Running.{runs}
 use Rattle.store.specs.Records.{record_label, record_value, rewritten}
 use Rattle.operands.specs.Program.{program}
 use Rattle.operands.specs.Tasks.{label_of}
-use Rattle.operands.specs.declared.By.{By}
 use Rattle.operands.specs.declared.Origin.{Origin}
 use Rattle.operands.specs.declared.Both.{Both}
 use Rattle.operands.specs.declared.Effect.{Effect}
@@ -33,9 +33,14 @@ use Rattle.effects.proofs.Taking.{settle, Cleared}
 use Rattle.machine.specs.declared.State.{State}
 use Rattle.model.specs.declared.Finished.{Finished}
 use Rattle.machine.specs.State.{no_frame, Ok, Live, control, account, Ran, pushed, label_raised, ended, caught, handled}
-use Rattle.machine.specs.Steps.{Finishes, begun}
+use Rattle.machine.specs.Steps.{meant, Finishes, begun}
+use Rattle.machine.specs.declared.program.Program.{Program as Given}
 use Rattle.machine.proofs.Stack.{drop_one, drop_none, drop_cut}
 use Rattle.machine.proofs.Methods.{relabelled, lowered, taken, jumped, with_locals, framed, unframed, ok_pushed, control_pushed, ok_kept, ok_framed, control_framed, next_live, Room, roomy}
+
+-- the places that a block pays, as the code adds them up
+pub one_and : (n j : ℕ) → n + (1 + j) ≡ n + 1 + j
+one_and n j = omega arith
 
 -- ── faults ──
 
@@ -68,9 +73,7 @@ fail_some s σ f code n o l h e =
 
 -- what it is applied to: a state whose operands are dropped, y and x being the top one and the one below
 pub record Decided : Type 0 where
-  pub code : List ℕ
-  pub ws : List ℕ
-  pub rs : List ℕ
+  pub program : Given
   pub σ : Store
   pub y : Datum
   pub x : Datum
@@ -79,14 +82,11 @@ pub record Decided : Type 0 where
   pub live : Live s
 
 module _ (z : Decided) where
-  abbrev code : List ℕ
-  code = z.code
+  abbrev g : Given
+  g = z.program
 
-  abbrev ws : List ℕ
-  ws = z.ws
-
-  abbrev rs : List ℕ
-  rs = z.rs
+  abbrev P : Program
+  P = meant g
 
   abbrev σ : Store
   σ = z.σ
@@ -107,13 +107,13 @@ module _ (z : Decided) where
   live = z.live
 
   abbrev pub Settled : State → Store → Effect → Type 0
-  Settled r τ e = Ran r τ (settle code ws rs (runs (program code ws rs)) (control s) (account s) σ y x e)
+  Settled r τ e = Ran r τ (settle g.code.now g.labels.now g.records.now (runs P) (control s) (account s) σ y x e)
 
   -- no frame is there, or one
-  pub does_end_fault : (by : By) (l : Label) (f n : ℕ) → l ≡ raised_by s.label by σ → s.newest ≡ 8 → Settled (ended (Faulted f n) (relabelled l s)) σ (Fault by f n)
+  pub does_end_fault : (by : Option ℕ) (l : Label) (f n : ℕ) → l ≡ raised_by s.label by σ → s.newest ≡ 8 → Settled (ended (Faulted f n) (relabelled l s)) σ (Fault by f n)
   does_end_fault by l f n e h = rw (← e) (fail_none (relabelled l s) σ f n o h)
 
-  pub does_catch : (by : By) (l : Label) (f n : ℕ) (q : Frame) → l ≡ raised_by s.label by σ → s.newest < 8 → q ≡ get_or s.frames s.newest no_frame → Settled (handled q f n (relabelled l s)) σ (Fault by f n)
+  pub does_catch : (by : Option ℕ) (l : Label) (f n : ℕ) (q : Frame) → l ≡ raised_by s.label by σ → s.newest < 8 → q ≡ get_or s.frames s.newest no_frame → Settled (handled q f n (relabelled l s)) σ (Fault by f n)
   does_catch by l f n q e h eq = rw (← e) (fail_some (relabelled l s) σ q f n o live h eq)
 
   pub does_drop : Settled s σ Drop
@@ -156,7 +156,7 @@ module _ (z : Decided) where
     pub does_handle : (h : Kind) (p : ℕ) → Settled (pushed (value (Handle h p)) s) σ (GivesHandle h p)
     does_handle h p = gave (Handle h p)
 
-    pub does_label : (a : Origin) (l : Label) → l ≡ label_from a s.label s.clearance ws σ → Settled (pushed (value (Labelled l)) s) σ (GivesLabel a)
+    pub does_label : (a : Origin) (l : Label) → l ≡ label_from a s.label s.clearance g.labels.now σ → Settled (pushed (value (Labelled l)) s) σ (GivesLabel a)
     does_label a l e = rw (← e) (gave (Labelled l))
 
     pub does_pair : (f : Both) (m l b : Label) → m ≡ label_of y → l ≡ label_of x → b ≡ paired_of f m l → Settled (pushed (value (Labelled b)) s) σ (GivesPair f)
@@ -203,17 +203,17 @@ module _ (z : Decided) where
 
   -- after a body: its steps and places are paid, and the outcome's handle is pushed
   abbrev left : ℕ → ℕ → State
-  left n j = record { stack = set s.stack (s.top - 1) (value (Handle Sealed s.next)); top = s.top - 1; locals = s.locals; frames = s.frames; newest = s.newest; label = s.label; clearance = s.clearance; steps = s.steps - n; next = s.next + 1 + j; limit = s.limit; depth = s.depth; pc = s.pc; progress = s.progress }
+  left n j = record { stack = set s.stack (s.top - 1) (value (Handle Sealed s.next)); top = s.top - 1; locals = s.locals; frames = s.frames; newest = s.newest; label = s.label; clearance = s.clearance; steps = s.steps - n; next = s.next + 1 + j; limit = s.limit; depth = s.depth; pc = s.pc; ending = s.ending }
 
   -- a body that has run, with the records τ, and whose outcome is sealed, with the records υ
   pub does_block : (t n j : ℕ) (τ υ : Store) (b : Label) (a : Account) (q : Finished) → Cleared (control s) (account s) n j → b ≡ label_of y → a ≡ body_account n j (account s)
-      → Finishes q τ (runs (program code ws rs) (begun t s.locals) a σ) → υ ≡ set τ s.next (holding Sealed b (sealed_of q.label q.ending b))
+      → Finishes q τ (runs P (begun t s.locals) a σ) → υ ≡ set τ s.next (holding Sealed b (sealed_of q.label q.ending b))
       → Settled (left n j) υ (Block t n j)
   unfolding outcome program
   does_block t n j τ υ b a q c eb ea ran eu =
       let w : Room s 1 0 0 0 = roomy s o c.fits in
       let d : Datum = Handle Sealed s.next in
-      let q0 : Outcome = runs (program code ws rs) (begun t s.locals) a σ in
+      let q0 : Outcome = runs P (begun t s.locals) a σ in
       let ac : Account = account (left n j) in
       let m = o.places.most in
       rw (← eb)
@@ -225,5 +225,5 @@ module _ (z : Decided) where
             ∙ ap (λ (v : Label). go (push d (control s)) ac (set τ s.next (holding Sealed b (sealed_of v q.ending b)))) (sym ran.label)
             ∙ ap (λ (v : Ending). go (push d (control s)) ac (set τ s.next (holding Sealed b (sealed_of q0.account.label v b)))) (sym ran.ending)
             ∙ ap (λ (v : Store). go (push d (control s)) ac (set v s.next (holding Sealed b (sealed_of q0.account.label q0.ending b)))) (sym ran.store)
-            ∙ ap (λ (v : Account). seal_outcome (program code ws rs) (control s) (account s) b n j (runs (program code ws rs) (begun t s.locals) v σ)) ea;
+            ∙ ap (λ (v : Account). seal_outcome P (control s) (account s) b n j (runs P (begun t s.locals) v σ)) ea;
       })

@@ -1,4 +1,5 @@
 -- The run state's methods, on what a state stands for.
+use Rattle.std.specs.Prelude.{Option}
 use mathlib.Core.Bool.{Bool, true, false, cond}
 use mathlib.Core.Path.{◌≡◌, refl, sym, ap, ◌∙◌}
 use mathlib.Core.List.{List, ◌∷◌}
@@ -12,12 +13,12 @@ use Rattle.labels.specs.declared.Label.{Label}
 use Rattle.model.specs.declared.Datum.TheVariants.{Number}
 use Rattle.model.specs.declared.Value.{Value}
 use Rattle.model.specs.declared.Frame.{Frame}
+use Rattle.model.specs.declared.Ending.{Ending}
 use Rattle.model.specs.State.{Control, Store, number, push, with_frames}
 use Rattle.model.specs.Operands.{tried}
 use Rattle.model.specs.Effects.{go}
 use Rattle.effects.proofs.Taking.{less, Bounded, Fits}
 use Rattle.effects.proofs.Popping.{Tops}
-use Rattle.machine.specs.declared.Status.{Status}
 use Rattle.machine.specs.declared.State.{State}
 use Rattle.machine.proofs.Stack.{drop_set, all_set}
 use Rattle.values.specs.Present.{present_of}
@@ -26,32 +27,32 @@ use Rattle.machine.specs.State.{no_frame, Ok, Live, control, account, next_on, n
 -- ── stores to the state's fields ──
 
 abbrev pub relabelled : Label → State → State
-relabelled l s = record { stack = s.stack; top = s.top; locals = s.locals; frames = s.frames; newest = s.newest; label = l; clearance = s.clearance; steps = s.steps; next = s.next; limit = s.limit; depth = s.depth; pc = s.pc; progress = s.progress }
+relabelled l s = record { stack = s.stack; top = s.top; locals = s.locals; frames = s.frames; newest = s.newest; label = l; clearance = s.clearance; steps = s.steps; next = s.next; limit = s.limit; depth = s.depth; pc = s.pc; ending = s.ending }
 
 abbrev pub lowered : Label → State → State
-lowered l s = record { stack = s.stack; top = s.top; locals = s.locals; frames = s.frames; newest = s.newest; label = s.label; clearance = l; steps = s.steps; next = s.next; limit = s.limit; depth = s.depth; pc = s.pc; progress = s.progress }
+lowered l s = record { stack = s.stack; top = s.top; locals = s.locals; frames = s.frames; newest = s.newest; label = s.label; clearance = l; steps = s.steps; next = s.next; limit = s.limit; depth = s.depth; pc = s.pc; ending = s.ending }
 
 abbrev pub taken : ℕ → State → State
-taken n s = record { stack = s.stack; top = s.top; locals = s.locals; frames = s.frames; newest = s.newest; label = s.label; clearance = s.clearance; steps = s.steps; next = s.next + n; limit = s.limit; depth = s.depth; pc = s.pc; progress = s.progress }
+taken n s = record { stack = s.stack; top = s.top; locals = s.locals; frames = s.frames; newest = s.newest; label = s.label; clearance = s.clearance; steps = s.steps; next = s.next + n; limit = s.limit; depth = s.depth; pc = s.pc; ending = s.ending }
 
 abbrev pub jumped : ℕ → State → State
-jumped t s = record { stack = s.stack; top = s.top; locals = s.locals; frames = s.frames; newest = s.newest; label = s.label; clearance = s.clearance; steps = s.steps; next = s.next; limit = s.limit; depth = s.depth; pc = t; progress = s.progress }
+jumped t s = record { stack = s.stack; top = s.top; locals = s.locals; frames = s.frames; newest = s.newest; label = s.label; clearance = s.clearance; steps = s.steps; next = s.next; limit = s.limit; depth = s.depth; pc = t; ending = s.ending }
 
 abbrev kept : ℕ → Value → State → State
-kept i v s = record { stack = s.stack; top = s.top; locals = set s.locals i v; frames = s.frames; newest = s.newest; label = s.label; clearance = s.clearance; steps = s.steps; next = s.next; limit = s.limit; depth = s.depth; pc = s.pc; progress = s.progress }
+kept i v s = record { stack = s.stack; top = s.top; locals = set s.locals i v; frames = s.frames; newest = s.newest; label = s.label; clearance = s.clearance; steps = s.steps; next = s.next; limit = s.limit; depth = s.depth; pc = s.pc; ending = s.ending }
 
 abbrev pub with_locals : List Value → State → State
-with_locals ls s = record { stack = s.stack; top = s.top; locals = ls; frames = s.frames; newest = s.newest; label = s.label; clearance = s.clearance; steps = s.steps; next = s.next; limit = s.limit; depth = s.depth; pc = s.pc; progress = s.progress }
+with_locals ls s = record { stack = s.stack; top = s.top; locals = ls; frames = s.frames; newest = s.newest; label = s.label; clearance = s.clearance; steps = s.steps; next = s.next; limit = s.limit; depth = s.depth; pc = s.pc; ending = s.ending }
 
 -- the frame that TRY stores
 abbrev new_frame : ℕ → State → Frame
 new_frame h s = record { handler = h; height = 32 - s.top; clearance = s.clearance }
 
 abbrev pub framed : ℕ → State → State
-framed h s = record { stack = s.stack; top = s.top; locals = s.locals; frames = set s.frames (s.newest - 1) (new_frame h s); newest = s.newest - 1; label = s.label; clearance = s.clearance; steps = s.steps; next = s.next; limit = s.limit; depth = s.depth; pc = s.pc; progress = s.progress }
+framed h s = record { stack = s.stack; top = s.top; locals = s.locals; frames = set s.frames (s.newest - 1) (new_frame h s); newest = s.newest - 1; label = s.label; clearance = s.clearance; steps = s.steps; next = s.next; limit = s.limit; depth = s.depth; pc = s.pc; ending = s.ending }
 
 abbrev pub unframed : State → State
-unframed s = record { stack = s.stack; top = s.top; locals = s.locals; frames = s.frames; newest = s.newest + 1; label = s.label; clearance = s.clearance; steps = s.steps; next = s.next; limit = s.limit; depth = s.depth; pc = s.pc; progress = s.progress }
+unframed s = record { stack = s.stack; top = s.top; locals = s.locals; frames = s.frames; newest = s.newest + 1; label = s.label; clearance = s.clearance; steps = s.steps; next = s.next; limit = s.limit; depth = s.depth; pc = s.pc; ending = s.ending }
 
 -- ── what they do ──
 
@@ -105,7 +106,7 @@ control_framed h s o p =
     ∙ ap (λ (m : ℕ). record { handler = h; height = m; clearance = s.clearance } ∷ drop s.newest s.frames) n)
 
 pub next_live : (r : State) → Live r → (σ : Store) → next_of r σ ≡ go (control r) (account r) σ
-next_live r e σ = ap (λ (h : Status). next_on h (control r) (account r) σ) e
+next_live r e σ = ap (λ (h : Option Ending). next_on h (control r) (account r) σ) e
 
 -- ── what the code finds on the stack and in the locals ──
 

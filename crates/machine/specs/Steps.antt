@@ -1,20 +1,17 @@
 -- What a run starts from and what it leaves.
-use Rattle.std.specs.Prelude.{◌≡◌, List, [], ℕ, ◌^◌, ◌<◌, length, replicate}
+use Rattle.std.specs.Prelude.{◌≡◌, List, [], ℕ, replicate, None}
 use Rattle.model.specs.declared.Value.{Value}
-use Rattle.model.specs.State.{Control, Store, Outcome, number}
+use Rattle.model.specs.State.{Control, Store, Outcome, Program, number}
 use Rattle.model.specs.declared.Account.{Account}
-use Rattle.model.specs.Words.{file_words}
-use Rattle.store.specs.Slots.{words}
-use Rattle.machine.specs.declared.Status.TheVariants.{Running}
+use Rattle.operands.specs.Program.{program}
 use Rattle.machine.specs.declared.State.{State}
+use Rattle.machine.specs.declared.program.Program.{Program as Given}
 use Rattle.model.specs.declared.Finished.{Finished}
 use Rattle.machine.specs.State.{no_frame}
 
--- the lengths that the code relies on
-pub record Sizes (c w s : List ℕ) : Type 0 where
-  pub code : length c < 2 ^ 16
-  pub labels : length w ≡ file_words
-  pub store : length s ≡ words
+-- what a program of the code is to the definition
+abbrev pub meant : Given → Program
+meant p = program p.code.now p.labels.now p.records.now
 
 -- ── the start ──
 
@@ -37,7 +34,7 @@ fresh pc locals a =
       limit = a.limit;
       depth = a.depth;
       pc = pc;
-      progress = record { status = Running };
+      ending = None;
     }
 
 -- ── the end ──

@@ -1,35 +1,35 @@
-// The run state, passed and returned by value, and the interpreter. The records are lent beside it, as words: the state
-// is copied, and 256 records in it would be copied too.
+// The run state, passed and returned by value, and the interpreter. The records are lent beside it: the state is copied, and
+// 256 records in it would be copied too.
 #![tactic(auto)]
 
-ghost use Rattle.std.specs.Prelude.{◌≡◌, ◌+◌, ◌≤◌, ◌<◌, length};
-ghost use Rattle.model.specs.Effects.{body_account};
+ghost use Rattle.std.specs.Prelude.{◌≡◌, ◌+◌, ◌-◌, ◌≤◌, ◌<◌, length, get_or, set};
+ghost use Rattle.model.specs.State.{value};
 ghost use Rattle.model.specs.Running.{runs, start_control, start_account};
-ghost use Rattle.operands.specs.Program.{program, count};
-ghost use Rattle.store.specs.Slots.{slots};
-ghost use Rattle.machine.specs.State.{Ok, Ran, account, next_of, ending_of, is_live, popped, pushed, label_raised, charged, ended, handled};
-ghost use Rattle.machine.specs.Steps.{Sizes, Finishes, begun, fresh};
-ghost use Rattle.machine.specs.Turns.{ready_of, turns};
+ghost use Rattle.operands.specs.Program.{count};
+ghost use Rattle.machine.specs.State.{Ok, Ran, account, next_of, ending_of};
+ghost use Rattle.machine.specs.State.{popped, pushed, label_raised, charged, no_frame, handled};
+ghost use Rattle.machine.specs.Steps.{meant, Finishes, begun, fresh};
+ghost use Rattle.machine.specs.Turns.{ready_of, decided, turns};
 
 use labels::Label;
-use model::{Account, Datum, Ending, Finished, Frame, Kind, Value};
-use operands::{Effect, Task};
+use model::{Account, Datum, Ending, Finished, Frame, Instr, Kind, Value};
+use operands::{Decision, Effect, Task};
+use store::Store;
 
-#[derive(Clone, Copy)]
-pub enum Status {
-    Running,
-    Ended(Ending),
-}
+mod program;
 
-// A struct of its own, so that the field can be set.
-#[derive(Clone, Copy)]
-pub struct Progress {
-    pub status: Status,
-}
+pub use program::Program;
+
+// What a local is before it is set, and a place of the stack that was not reached. A constant, so that an array of it is
+// zeroed in one go.
+const NUMBER_0: Value = Value {
+    datum: Datum::Number(0),
+};
 
 // In this order, since a method that sets a field moves what lies behind it, and one that moves over 1 KB is not inlined into a
 // run that calls itself. The frames come before the stack, so that they are set where they lie. `limit` and `depth`, which no
-// run sets, lie between the arrays, or these are moved as one.
+// run sets, lie between the arrays, or these are moved as one. No ghost field says what holds of `top` and `newest` (`Ok`): the
+// definitions of the methods build states, and would have to carry its proof. The arrays are of fixed size, as there is no heap.
 #[derive(Clone, Copy)]
 pub struct State {
     pub locals: [Value; 16],
@@ -48,22 +48,31 @@ pub struct State {
     pub steps: usize,
     pub next: usize,
     pub pc: usize,
-    pub progress: Progress,
+    // None while the run goes on.
+    pub ending: Option<Ending>,
 }
 
-// How a run ended.
-fn ending(p: Progress) -> Ending
-    ensures { result ≡ ending_of p.status }
+// How a run ended: one that was let go on for no step is spent. Case by case and not by `unwrap_or`, and so are the values and
+// labels that a run leaves: copied whole they wait for their stores, and a block takes 1.4 times the time.
+fn ending(e: Option<Ending>) -> Ending
+    ensures { result ≡ ending_of e }
 {
-    let s = p.status;
-    match s {
-        Status::Running => Ending::Spent,
-        Status::Ended(e) => match e {
-            Ending::Result(d) => Ending::Result(values::same(d)),
-            Ending::Fault(code, n) => Ending::Fault(code, n),
-            Ending::Spent => Ending::Spent,
-        },
+    match e {
+        None => Ending::Spent,
+        Some(Ending::Result(d)) => Ending::Result(values::same(d)),
+        Some(Ending::Fault(code, n)) => Ending::Fault(code, n),
+        Some(Ending::Spent) => Ending::Spent,
     }
+}
+
+// Puts a value on a stack and gives where it lies. The stack is lent, so that the state that it is part of stays in place.
+fn put(stack: &mut [Value; 32], top: usize, datum: Datum) -> usize
+    requires { (0 < top) × (top ≤ 32) }
+    ensures lies { result ≡ top - 1 }
+    ensures holds { stack.new ≡ set stack.old (top - 1) (value datum) }
+{
+    stack[top - 1] = Value { datum };
+    top - 1
 }
 
 impl State {
@@ -72,18 +81,16 @@ impl State {
         requires { self.top + k ≤ 32 }
         ensures { result ≡ popped k self }
     {
-        let top = self.top;
-        self.top = top + k;
+        self.top += k;
         self
     }
 
+    // By this a caught fault's code and number come onto the stack; `put` is the same of a stack that is lent.
     pub fn push(mut self, v: Value) -> State
         requires { (0 < self.top) × (self.top ≤ 32) }
         ensures { result ≡ pushed v self }
     {
-        let top = self.top - 1;
-        self.stack[top] = v;
-        self.top = top;
+        self.top = put(&mut self.stack, self.top, v.datum);
         self
     }
 
@@ -91,9 +98,7 @@ impl State {
     pub fn raise(mut self, l: Label) -> State
         ensures { result ≡ label_raised l self }
     {
-        let label = self.label;
-        let raised = labels::join(label, l);
-        self.label = raised;
+        self.label = labels::join(self.label, l);
         self
     }
 
@@ -102,40 +107,17 @@ impl State {
         requires { n ≤ self.steps }
         ensures { result ≡ charged n self }
     {
-        let left = self.steps;
-        self.steps = left - n;
+        self.steps -= n;
         self
     }
 
-    fn end(mut self, e: Ending) -> State
-        ensures { result ≡ ended e self }
+    // No field of the state, whose fields are in an order of their own.
+    fn account(&self) -> Account
+        ensures { result ≡ account self.now }
     {
-        let p = Progress {
-            status: Status::Ended(e),
-        };
-        self.progress = p;
-        self
-    }
-
-    fn live(self) -> bool
-        ensures { result ≡ is_live self.progress.status }
-    {
-        let p = self.progress;
-        let s = p.status;
-        match s {
-            Status::Running => true,
-            Status::Ended(_) => false,
-        }
-    }
-
-    fn account(self) -> Account
-        ensures { result ≡ account self }
-    {
-        let label = self.label;
-        let clearance = self.clearance;
         Account {
-            label,
-            clearance,
+            label: self.label,
+            clearance: self.clearance,
             steps: self.steps,
             next: self.next,
             limit: self.limit,
@@ -143,22 +125,11 @@ impl State {
         }
     }
 
-    // The account that a block's body starts with: n steps, k places behind its outcome's.
-    fn inside(self, n: usize, k: usize) -> Account
-        requires { (self.depth < 8) × (self.next + 1 + k ≤ 256) }
-        ensures { result ≡ body_account n k (account self) }
-    {
-        values::inside(self.account(), n, k)
-    }
-
     // Whether the run goes on.
-    fn ready(self) -> bool
-        ensures { result ≡ ready_of self }
+    fn ready(&self) -> bool
+        ensures { result ≡ ready_of self.now }
     {
-        if !self.live() {
-            return false;
-        }
-        0 < self.steps
+        self.ending.is_none() && 0 < self.steps
     }
 
     // Goes on at a frame's handler, with the frame's clearance; the handler gets a code and a number.
@@ -166,214 +137,164 @@ impl State {
         requires { (self.top ≤ 32) × (self.newest < 8) × (f.height ≤ 30) }
         ensures { result ≡ handled f code number self }
     {
-        let newest = self.newest;
-        let top = values::cut(self.top, f.height);
-        let clearance = f.clearance;
-        self.newest = newest + 1;
+        self.newest += 1;
         self.pc = f.handler;
-        self.clearance = clearance;
-        self.top = top;
-        let s = self.push(values::number(code));
-        s.push(values::number(number))
+        self.clearance = f.clearance;
+        self.top = values::cut(self.top, f.height);
+        self.push(values::number(code)).push(values::number(number))
+    }
+
+    // The same of the newest frame. Lent and not inlined, so that a step has no copy of the state beside it: with one, a block
+    // takes 1.2 times the time.
+    #[inline(never)]
+    fn catch(&mut self, code: u32, number: u32)
+        requires places { (self.old.top ≤ 32) × (self.old.newest < 8) }
+        requires low { (get_or self.old.frames self.old.newest no_frame).height ≤ 30 }
+        ensures { self.new ≡ handled (get_or self.old.frames self.old.newest no_frame) code number self.old }
+    {
+        *self = self.caught(self.frames[self.newest], code, number);
+    }
+
+    // What an instruction comes to, where the two values on top lie at these places.
+    fn decide(
+        &self,
+        i: Instr,
+        first: usize,
+        second: usize,
+        records: &[u8],
+        store: &Store,
+    ) -> Decision
+        requires values { (first < 32) × (second < 32) × (self.now.top ≤ 32) }
+        requires rest { (self.now.newest ≤ 8) × (self.now.next ≤ self.now.limit) }
+        ensures { result ≡ decided i first second records.now self.now store.now }
+    {
+        match operands::task_of(i, 32 - self.top, 8 - self.newest, records) {
+            Task::Do(d) => d,
+            Task::Numbers(t) => operands::on_numbers(
+                t,
+                self.stack[first].datum,
+                self.stack[second].datum,
+            ),
+            Task::Labels(t) => {
+                effects::on_labels(
+                    t,
+                    self.stack[first].datum,
+                    self.stack[second].datum,
+                    self.account(),
+                    store,
+                )
+            }
+        }
     }
 
     // Up to `count` instructions, as far as the run goes. The state stays in place: passed to a method that stores at an index
-    // known at run time, it is copied.
+    // known at run time, it is copied. So this is one function, however long, and a value goes onto the stack by `put` here.
     #[cycle(step_run)]
-    pub fn step(
-        mut self,
-        code: &[u8],
-        labels: &[u64],
-        records: &[u8],
-        store: &mut [u64],
-        count: usize,
-    ) -> State
-        requires { Ok self × Sizes code.now labels.now store.old }
-        ensures { Ran result (slots store.new) (turns code.now labels.now records.now count (next_of self (slots store.old))) }
+    pub fn step(mut self, program: Program, store: &mut Store, count: usize) -> State
+        requires { Ok self }
+        ensures { Ran result store.new (turns (meant program.entry) count (next_of self store.old)) }
     {
-        let mut todo = count;
-        while 0 < todo {
+        for _ in 0..count {
             if !self.ready() {
                 return self;
             }
-            todo = todo - 1;
             self = self.charge(1);
-            let pc = self.pc;
-            let top = self.top;
+            let f = decode::decode(program.code, self.pc);
+            self.pc = f.after;
             // Where the two values on top lie, if they are there: read only where an instruction looks at them.
-            let first = values::least(top, 31);
-            let second = values::least(top + 1, 31);
-            let height = 32 - top;
-            let frames = 8 - self.newest;
-            let f = decode::decode(code, pc);
-            let after = f.after;
-            let i = f.instr;
-            self.pc = after;
+            let first = self.top.min(31);
+            let second = (self.top + 1).min(31);
             // Decide,
-            let d = match operands::task_of(i, height, frames, records) {
-                Task::Do(d) => d,
-                Task::Numbers(t) => {
-                    let v = self.stack[first];
-                    let u = self.stack[second];
-                    let y = v.datum;
-                    let x = u.datum;
-                    operands::on_numbers(t, y, x)
-                }
-                Task::Labels(t) => {
-                    let v = self.stack[first];
-                    let u = self.stack[second];
-                    let y = v.datum;
-                    let x = u.datum;
-                    let account = self.account();
-                    effects::on_labels(t, y, x, account, store)
-                }
-            };
+            let d = self.decide(f.instr, first, second, program.records, store);
             // then apply, in place. A value that is dropped still lies where it lay.
-            let e = d.effect;
             self = self.pop(d.takes);
-            let low = self.top;
-            match e {
+            match d.effect {
                 Effect::Fault(by, code, n) => {
-                    let label = self.label;
-                    let l = effects::raised(label, by, store);
-                    self.label = l;
-                    let newest = self.newest;
-                    if newest == 8 {
-                        self = self.end(Ending::Fault(code, n));
+                    self.label = effects::raised(self.label, by, store);
+                    if self.newest == 8 {
+                        self.ending = Some(Ending::Fault(code, n));
                     } else {
-                        let f = self.frames[newest];
-                        self = self.caught(f, code, n);
+                        self.catch(code, n);
                     }
                 }
                 Effect::Drop => {}
-                Effect::Jump(t) => {
-                    self.pc = t;
-                }
-                Effect::Number(n) => {
-                    let at = low - 1;
-                    self.stack[at] = values::number(n);
-                    self.top = at;
-                }
-                Effect::Handle(kind, p) => {
-                    let at = low - 1;
-                    self.stack[at] = Value {
-                        datum: Datum::Handle(kind, p),
-                    };
-                    self.top = at;
-                }
+                Effect::Jump(t) => self.pc = t,
+                Effect::Number(n) => self.top = put(&mut self.stack, self.top, Datum::Number(n)),
+                Effect::Handle(kind, p) => self.top = put(
+                    &mut self.stack,
+                    self.top,
+                    Datum::Handle(kind, p),
+                ),
                 Effect::Label(o) => {
-                    let label = self.label;
-                    let clearance = self.clearance;
-                    let l = effects::label_from(o, label, clearance, labels, store);
-                    let at = low - 1;
-                    self.stack[at] = Value {
-                        datum: Datum::Label(l),
-                    };
-                    self.top = at;
+                    let l = effects::label_from(
+                        o,
+                        self.label,
+                        self.clearance,
+                        program.labels,
+                        store,
+                    );
+                    self.top = put(&mut self.stack, self.top, Datum::Label(l));
                 }
                 Effect::Pair(f) => {
-                    let v = self.stack[first];
-                    let u = self.stack[second];
-                    let m = values::label_in(v);
-                    let l = values::label_in(u);
-                    let both = effects::paired(f, m, l);
-                    let at = low - 1;
-                    self.stack[at] = Value {
-                        datum: Datum::Label(both),
-                    };
-                    self.top = at;
+                    let m = values::label_in(self.stack[first]);
+                    let l = values::label_in(self.stack[second]);
+                    self.top = put(
+                        &mut self.stack,
+                        self.top,
+                        Datum::Label(effects::paired(f, m, l)),
+                    );
                 }
                 Effect::Get(i) => {
-                    let from = values::least(i, 15);
-                    let v = self.locals[from];
-                    let d = values::present(i, 16, v);
-                    let at = low - 1;
-                    self.stack[at] = Value { datum: d };
-                    self.top = at;
+                    let d = values::present(i, 16, self.locals[i.min(15)]);
+                    self.top = put(&mut self.stack, self.top, d);
                 }
                 Effect::Set(i) => {
                     if i < 16 {
-                        let v = self.stack[first];
-                        self.locals[i] = v;
+                        self.locals[i] = self.stack[first];
                     }
                 }
                 Effect::Try(h) => {
-                    let newest = self.newest - 1;
-                    let clearance = self.clearance;
-                    self.frames[newest] = Frame {
+                    self.newest -= 1;
+                    self.frames[self.newest] = Frame {
                         handler: h,
-                        height: 32 - low,
-                        clearance,
+                        height: 32 - self.top,
+                        clearance: self.clearance,
                     };
-                    self.newest = newest;
                 }
-                Effect::Done => {
-                    let newest = self.newest;
-                    self.newest = newest + 1;
-                }
-                Effect::End => {
-                    let v = self.stack[first];
-                    let d = v.datum;
-                    self = self.end(Ending::Result(values::same(d)));
-                }
-                Effect::Raise => {
-                    let v = self.stack[first];
-                    let l = values::label_in(v);
-                    self = self.raise(l);
-                }
-                Effect::Lower => {
-                    let v = self.stack[first];
-                    let l = values::label_in(v);
-                    self.clearance = l;
-                }
+                Effect::Done => self.newest += 1,
+                Effect::End => self.ending = Some(Ending::Result(values::same(
+                    self.stack[first].datum,
+                ))),
+                Effect::Raise => self = self.raise(values::label_in(self.stack[first])),
+                Effect::Lower => self.clearance = values::label_in(self.stack[first]),
                 Effect::Make(kind) => {
-                    let v = self.stack[first];
-                    let u = self.stack[second];
-                    let x = u.datum;
-                    let next = self.next;
-                    let l = values::label_in(v);
-                    effects::keep(kind, l, x, next, store);
-                    let at = low - 1;
-                    self.stack[at] = Value {
-                        datum: Datum::Handle(kind, next),
-                    };
-                    self.top = at;
-                    self.next = next + 1;
+                    let l = values::label_in(self.stack[first]);
+                    effects::keep(kind, l, self.stack[second].datum, self.next, store);
+                    self.top = put(&mut self.stack, self.top, Datum::Handle(kind, self.next));
+                    self.next += 1;
                 }
-                Effect::Write(p) => {
-                    let u = self.stack[second];
-                    let x = u.datum;
-                    store::rewrite(store, p, x);
-                }
+                Effect::Write(p) => store::rewrite(store, p, self.stack[second].datum),
                 Effect::Open(p) => {
                     let l = store::label_of(store, p);
                     let d = store::value_of(store, p);
                     self = self.raise(l);
-                    let at = low - 1;
-                    self.stack[at] = Value { datum: d };
-                    self.top = at;
+                    self.top = put(&mut self.stack, self.top, d);
                 }
                 // The body runs on a state of its own, so label, clearance, stack and frames are the outer run's own
                 // afterwards. Its outcome is sealed under the bound in the first of its places, which are paid with
                 // its steps, and the record's handle takes the bound's place on the stack.
                 Effect::Block(t, n, places) => {
-                    let locals = self.locals;
-                    let next = self.next;
-                    let body = self.inside(n, places);
-                    let done = run(t, locals, body, code, labels, records, store);
-                    let v = self.stack[first];
-                    let b = values::label_in(v);
-                    let l = done.label;
-                    let ending = done.ending;
-                    effects::conclude(b, l, ending, next, store);
+                    let body = values::inside(self.account(), n, places);
+                    let done = run(t, &self.locals, body, program, store);
+                    let b = values::label_in(self.stack[first]);
+                    effects::conclude(b, done.label, done.ending, self.next, store);
                     self = self.charge(n);
-                    self.next = next + 1 + places;
-                    let at = low - 1;
-                    let outcome = Value {
-                        datum: Datum::Handle(Kind::Sealed, next),
-                    };
-                    self.stack[at] = outcome;
-                    self.top = at;
+                    self.top = put(
+                        &mut self.stack,
+                        self.top,
+                        Datum::Handle(Kind::Sealed, self.next),
+                    );
+                    self.next += 1 + places;
                 }
             }
         }
@@ -383,44 +304,27 @@ impl State {
 
 // A run to its end, from pc on with these locals, an empty stack and no frames.
 #[cycle(step_run)]
-fn run(
-    pc: usize,
-    locals: [Value; 16],
-    a: Account,
-    code: &[u8],
-    labels: &[u64],
-    records: &[u8],
-    store: &mut [u64],
-) -> Finished
-    requires { (length locals ≡ 16) × (a.next ≤ a.limit) × (a.limit ≤ 256) × Sizes code.now labels.now store.old }
-    ensures { Finishes result (slots store.new) (runs (program code.now labels.now records.now) (begun pc locals) a (slots store.old)) }
+fn run(pc: usize, locals: &[Value; 16], a: Account, program: Program, store: &mut Store) -> Finished
+    requires { (a.next ≤ a.limit) × (a.limit ≤ 256) }
+    ensures { Finishes result store.new (runs (meant program.entry) (begun pc locals.now) a store.old) }
 {
-    let s = start(pc, locals, a);
-    let left = a.steps;
-    let r = s.step(code, labels, records, store, left);
-    let progress = r.progress;
-    let label = r.label;
-    let clearance = r.clearance;
+    let r = start(pc, locals, a).step(program, store, a.steps);
     Finished {
-        ending: ending(progress),
-        label: values::same_label(label),
-        clearance: values::same_label(clearance),
+        ending: ending(r.ending),
+        label: values::same_label(r.label),
+        clearance: values::same_label(r.clearance),
         steps: r.steps,
         next: r.next,
     }
 }
 
 // A run that has not begun.
-fn start(pc: usize, locals: [Value; 16], a: Account) -> State
-    ensures { result ≡ fresh pc locals a }
+fn start(pc: usize, locals: &[Value; 16], a: Account) -> State
+    ensures { result ≡ fresh pc locals.now a }
 {
-    let label = a.label;
-    let clearance = a.clearance;
     State {
-        locals,
-        stack: [Value {
-            datum: Datum::Number(0),
-        }; 32],
+        locals: *locals,
+        stack: [NUMBER_0; 32],
         frames: [Frame {
             handler: 0,
             height: 0,
@@ -428,51 +332,39 @@ fn start(pc: usize, locals: [Value; 16], a: Account) -> State
         }; 8],
         top: 32,
         newest: 8,
-        label,
-        clearance,
+        label: a.label,
+        clearance: a.clearance,
         steps: a.steps,
         next: a.next,
         limit: a.limit,
         depth: a.depth,
         pc,
-        progress: Progress {
-            status: Status::Running,
-        },
+        ending: None,
     }
 }
 
-// Runs a loaded file: its code, its labels, and its input records, which have their places in the store already.
+// Runs a loaded file from its start, the input records being in the store already.
 pub fn execute(
-    code: &[u8],
-    labels: &[u64],
-    records: &[u8],
+    program: Program,
     label: Label,
     clearance: Label,
     steps: usize,
     places: usize,
-    store: &mut [u64],
+    store: &mut Store,
 ) -> Finished
-    requires { Sizes code.now labels.now store.old × (count records.now ≤ places) × (places ≤ 256) }
-    ensures { Finishes result (slots store.new) (runs (program code.now labels.now records.now) start_control (start_account label clearance steps (count records.now) places) (slots store.old)) }
+    requires { (count program.records.now ≤ places) × (places ≤ 256) }
+    ensures { Finishes result store.new
+        (runs (meant program.entry) start_control
+        (start_account label clearance steps (count program.entry.records.now) places)
+        store.old) }
 {
-    let next = records.len() / 6;
     let a = Account {
         label,
         clearance,
         steps,
-        next,
+        next: program.records.len() / 6,
         limit: places,
         depth: 0,
     };
-    run(
-        0,
-        [Value {
-            datum: Datum::Number(0),
-        }; 16],
-        a,
-        code,
-        labels,
-        records,
-        store,
-    )
+    run(0, &[NUMBER_0; 16], a, program, store)
 }

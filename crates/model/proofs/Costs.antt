@@ -1,4 +1,5 @@
 -- What each instruction costs, exactly, in steps and places.
+use Rattle.std.specs.Prelude.{None, Some}
 use mathlib.Core.Bool.{Bool, true, false, cond, ◌&&◌, and_assoc}
 use mathlib.Core.Path.{◌≡◌, refl}
 use Prim.Native.Nat.{ℕ, suc, ◌+◌}
@@ -6,14 +7,12 @@ use native.Mathlib.Omega.{arith}
 use lib.Dec.{leb, ltb}
 use borrow.Author.Tests.{leb-true}
 use Rattle.labels.specs.declared.Label.{Label}
-use Rattle.model.specs.State.{Control, Store, Program, flows_in, Runner, at, jump, with_clearance, with_steps}
+use Rattle.model.specs.State.{Control, Store, Program, flows_in, Runner, at, jump, with_clearance, with_steps, Slot}
 use Rattle.model.specs.declared.Account.{Account}
 use Rattle.model.specs.Operands.{Request, none, ends, throws, raises, lowers, labels, opens, makes, writes, blocks, Plan, faults, asks, plan}
 use Rattle.model.specs.Effects.{Next, fail, check_between, check_target, raised, open_slot, label_slot, write_slot, act}
 use Rattle.model.specs.Running.{perform, step}
 use Rattle.model.specs.declared.Datum.{Datum}
-use Rattle.model.specs.declared.Slot.{Slot}
-use Rattle.model.specs.declared.Slot.TheVariants.{Empty, Full}
 use Rattle.model.proofs.Tests.{cond_one, cond_two}
 use Rattle.model.proofs.Effects.{account_of, fail_of, yield_of}
 
@@ -38,17 +37,10 @@ target_ok P a l = flows_in P a.label l && flows_in P l a.clearance
 -- A record made costs a place. A block entered costs n steps and k + 1 places, whatever its body does. All else, and
 -- every fault, costs nothing more.
 unfoldable pub cost : Program → Account → Request → Cost
-cost P a none = costs 0 0
-cost P a (ends d) = costs 0 0
-cost P a (throws n) = costs 0 0
-cost P a (raises l) = costs 0 0
-cost P a (lowers l) = costs 0 0
-cost P a (labels p) = costs 0 0
-cost P a (opens p) = costs 0 0
 cost P a (makes h l d) = cond (target_ok P a l && ltb a.next a.limit) (costs 0 1) (costs 0 0)
-cost P a (writes p d) = costs 0 0
 cost P a (blocks b t n k) =
     cond (target_ok P a b && (ltb a.depth 8 && (leb n a.steps && leb (a.next + 1 + k) a.limit))) (costs n (k + 1)) (costs 0 0)
+cost P a q = costs 0 0
 
 abbrev pub plan_cost : Program → Account → Plan → Cost
 plan_cost P a (faults code) = costs 0 0
@@ -103,8 +95,8 @@ module _ (P : Program) (R : Runner) (c : Control) (a : Account) (σ : Store) whe
 
   open_cost : (r : Control) (x : Slot) → Costs (costs 0 0) (open_slot P c r a σ x)
   unfolding open_slot
-  open_cost r Empty = faulted 33 0
-  open_cost r (Full x) =
+  open_cost r None = faulted 33 0
+  open_cost r (Some x) =
       cond_one (Costs (costs 0 0)) (flows_in P (P.join a.label x.label) a.clearance)
       (λ _. yield_of (λ b _. Paid (costs 0 0) a b) (λ b _ m p. paid_clears a b m p) c r (raised P x.label a) σ x.contents
       (record { steps = omega arith; next = omega arith; limit = refl; depth = refl }))
@@ -112,13 +104,13 @@ module _ (P : Program) (R : Runner) (c : Control) (a : Account) (σ : Store) whe
 
   label_cost : (r : Control) (x : Slot) → Costs (costs 0 0) (label_slot c r a σ x)
   unfolding label_slot
-  label_cost r Empty = faulted 33 0
-  label_cost r (Full x) = paid_none a
+  label_cost r None = faulted 33 0
+  label_cost r (Some x) = paid_none a
 
   write_cost : (r : Control) (p : ℕ) (d : Datum) (x : Slot) → Costs (costs 0 0) (write_slot P c r a σ p d x)
   unfolding write_slot
-  write_cost r p d Empty = faulted 33 0
-  write_cost r p d (Full x) = between_free 23 24 x.label _ (paid_none a)
+  write_cost r p d None = faulted 33 0
+  write_cost r p d (Some x) = between_free 23 24 x.label _ (paid_none a)
 
   act_cost : (r : Control) (q : Request) → Costs (cost P a q) (act P R c r a σ q)
   unfolding act cost

@@ -1,6 +1,7 @@
 -- What an instruction can do to account and store: six effects. What holds of each holds of every instruction, and what
 -- goes through each goes through a run. Theorems on one run are proved by these two principles, once for each effect. They
 -- serve what says nothing of the clearance, since a caught fault takes that from a frame; Landing serves what does.
+use Rattle.std.specs.Prelude.{None, Some}
 use mathlib.Core.Bool.{true}
 use mathlib.Core.List.{List, [], ◌∷◌}
 use mathlib.Core.Path.{◌≡◌, refl}
@@ -9,7 +10,7 @@ use lib.Dec.{leb, ltb}
 use borrow.Author.Tests.{ltb-true, leb-true}
 use lib.ListN.{set}
 use Rattle.labels.specs.declared.Label.{Label}
-use Rattle.model.specs.State.{Control, Store, Program, flows_in, Outcome, Runner, at, jump, with_clearance, with_steps, with_next}
+use Rattle.model.specs.State.{Control, Store, Program, flows_in, Outcome, Runner, at, jump, with_clearance, with_steps, with_next, Slot}
 use Rattle.model.specs.declared.Account.{Account}
 use Rattle.model.specs.Operands.{Request, none, ends, throws, raises, lowers, labels, opens, makes, writes, blocks, Plan, faults, asks, plan}
 use Rattle.model.specs.Effects.{Next, go, stop, fail_to, fail, check_between, check_raise, raised, holding, yield, open_slot, label_slot, write_slot, body_control, body_account, act}
@@ -20,8 +21,6 @@ use Rattle.model.specs.declared.Datum.{Datum}
 use Rattle.model.specs.declared.Contents.{Contents}
 use Rattle.model.specs.declared.Contents.TheVariants.{Value as Holds, Fault}
 use Rattle.model.specs.declared.Record.{Record}
-use Rattle.model.specs.declared.Slot.{Slot}
-use Rattle.model.specs.declared.Slot.TheVariants.{Empty, Full}
 use Rattle.model.specs.declared.Frame.{Frame}
 use Rattle.model.proofs.Tests.{cond_one}
 
@@ -50,7 +49,7 @@ pub record Effects (P : Program) (R : Runner) (a : Account) (σ : Store) (G : Ac
   pub raises_to : (l : Label) → flows_in P (P.join a.label l) a.clearance ≡ true → G (raised P l a) σ
   pub made : (h : Kind) (l : Label) (d : Datum) → flows_in P a.label l ≡ true → flows_in P l a.clearance ≡ true → a.next < a.limit
       → G (with_next (a.next + 1) a) (set σ a.next (holding h l (Holds d)))
-  pub written : (p : ℕ) (x : Record) (d : Datum) → at σ p ≡ Full x → flows_in P a.label x.label ≡ true
+  pub written : (p : ℕ) (x : Record) (d : Datum) → at σ p ≡ Some x → flows_in P a.label x.label ≡ true
       → flows_in P x.label a.clearance ≡ true → G a (set σ p (holding x.kind x.label (Holds d)))
   -- whatever the outcome x is
   pub blocked : (c : Control) (b : Label) (n k : ℕ) → flows_in P a.label b ≡ true → flows_in P b a.clearance ≡ true → n ≤ a.steps
@@ -91,19 +90,19 @@ module _ (G : Account → Store → Type 0) where
 
     open_of : (r : Control) (x : Slot) → Of G (open_slot P c r a σ x)
     unfolding open_slot
-    open_of r Empty = fails 33 0
-    open_of r (Full x) =
+    open_of r None = fails 33 0
+    open_of r (Some x) =
         raise_of x.label _ (λ e. yield_of G E.clears c r (raised P x.label a) σ x.contents (E.raises_to x.label e))
 
     label_of : (r : Control) (x : Slot) → Of G (label_slot c r a σ x)
     unfolding label_slot
-    label_of r Empty = fails 33 0
-    label_of r (Full x) = E.keeps
+    label_of r None = fails 33 0
+    label_of r (Some x) = E.keeps
 
     write_of : (r : Control) (p : ℕ) (d : Datum) (x : Slot) → at σ p ≡ x → Of G (write_slot P c r a σ p d x)
     unfolding write_slot
-    write_of r p d Empty e = fails 33 0
-    write_of r p d (Full x) e = between_of 23 24 x.label _ (λ f g. E.written p x d e f g)
+    write_of r p d None e = fails 33 0
+    write_of r p d (Some x) e = between_of 23 24 x.label _ (λ f g. E.written p x d e f g)
 
     act_of : (r : Control) (q : Request) → Of G (act P R c r a σ q)
     unfolding act

@@ -9,7 +9,7 @@ use lib.Dec.{leb, ltb}
 use borrow.Author.Tests.{leb-true}
 use Rattle.model.specs.State.{Control, Store, Program, flows_in, Outcome, Runner, jump, with_steps}
 use Rattle.model.specs.declared.Account.{Account}
-use Rattle.model.specs.Operands.{Request, none, ends, throws, raises, lowers, labels, opens, makes, writes, blocks, Plan, faults, asks, plan}
+use Rattle.model.specs.Operands.{Request, blocks, Plan, faults, asks, plan}
 use Rattle.model.specs.Effects.{Next, go, stop, fail, body_control, body_account, seal_outcome, act}
 use Rattle.model.specs.Running.{perform, step, resume, pay, run, runs}
 use Rattle.model.specs.declared.Ending.TheVariants.{Spent}
@@ -41,15 +41,6 @@ module _ (P : Program) where
 
   act_agree : (R Q : Runner) (c r : Control) (a : Account) (σ : Store) → Agree a.steps R Q → (q : Request) → act P R c r a σ q ≡ act P Q c r a σ q
   unfolding act
-  act_agree R Q c r a σ h none = refl
-  act_agree R Q c r a σ h (ends d) = refl
-  act_agree R Q c r a σ h (throws n) = refl
-  act_agree R Q c r a σ h (raises l) = refl
-  act_agree R Q c r a σ h (lowers l) = refl
-  act_agree R Q c r a σ h (labels p) = refl
-  act_agree R Q c r a σ h (opens p) = refl
-  act_agree R Q c r a σ h (makes k l d) = refl
-  act_agree R Q c r a σ h (writes p d) = refl
   act_agree R Q c r a σ h (blocks b t n k) =
       cond_two (λ x y. x ≡ y) (flows_in P a.label b)
       (λ _. cond_two (λ x y. x ≡ y) (flows_in P b a.clearance)
@@ -61,6 +52,7 @@ module _ (P : Program) where
       (λ _. refl))
       (λ _. refl))
       (λ _. refl)
+  act_agree R Q c r a σ h q = refl
 
   perform_agree : (R Q : Runner) (c : Control) (a : Account) (σ : Store) → Agree a.steps R Q → (q : Plan)
       → perform P R c a σ q ≡ perform P Q c a σ q

@@ -1,11 +1,12 @@
 -- One run: what it leaves as it was. No assumption on how it ends.
+use Rattle.std.specs.Prelude.{None, Some}
 use mathlib.Core.Bool.{Bool, true, false, true≢false}
 use mathlib.Core.Path.{◌≡◌, refl, sym, ap, ◌∙◌}
 use Prim.Native.Nat.{ℕ, ◌+◌, ◌-◌, ◌≤◌, ◌<◌}
 use native.Mathlib.Omega.{arith}
 use lib.ListN.{length, set, length-set}
 use Rattle.labels.specs.declared.Label.{Label}
-use Rattle.model.specs.State.{Control, Store, Program, flows_in, Runner, at, with_steps, with_next, shown}
+use Rattle.model.specs.State.{Control, Store, Program, flows_in, Runner, at, with_steps, with_next, shown, Slot}
 use Rattle.model.specs.declared.Account.{Account}
 use Rattle.model.specs.Effects.{Next, holding, body_account}
 use Rattle.model.specs.Running.{step, resume, run}
@@ -14,8 +15,6 @@ use Rattle.model.specs.declared.Kind.TheVariants.{Sealed}
 use Rattle.model.specs.declared.Contents.{Contents}
 use Rattle.model.specs.declared.Contents.TheVariants.{Value as Holds, Fault}
 use Rattle.model.specs.declared.Record.{Record}
-use Rattle.model.specs.declared.Slot.{Slot}
-use Rattle.model.specs.declared.Slot.TheVariants.{Empty, Full}
 use Rattle.model.proofs.Places.{after_set}
 use Rattle.model.proofs.Effects.{Runs, Of, step_of, resume_of, run_of}
 
@@ -30,8 +29,8 @@ pub record LowSet (P : Program) (Low : Label → Bool) : Type 0 where
 
 -- a record without its contents
 unfoldable pub shell : Slot → Slot
-shell Empty = Empty
-shell (Full x) = holding x.kind x.label (Fault 0 0)
+shell None = None
+shell (Some x) = holding x.kind x.label (Fault 0 0)
 
 -- a place that the run may still fill
 abbrev Allotted : Account → ℕ → Type 0
@@ -39,7 +38,7 @@ Allotted a p = (a.next ≤ p) × (p < a.limit)
 
 -- the store has these places, and they are empty
 abbrev pub Fresh : Account → Store → Type 0
-Fresh a σ = (p : ℕ) → Allotted a p → (p < length σ) × (at σ p ≡ Empty)
+Fresh a σ = (p : ℕ) → Allotted a p → (p < length σ) × (at σ p ≡ None)
 
 -- from account a and store σ to account b and store τ
 pub record Kept (Low : Label → Bool) (a : Account) (σ : Store) (b : Account) (τ : Store) : Type 0 where
@@ -55,12 +54,12 @@ pub record Kept (Low : Label → Bool) (a : Account) (σ : Store) (b : Account) 
 
 -- ── the proof, by effects ──
 
-shell_empty : (x : Slot) → shell x ≡ Empty → x ≡ Empty
+shell_empty : (x : Slot) → shell x ≡ None → x ≡ None
 unfolding shell
-shell_empty Empty e = refl
-shell_empty (Full x) e = cc
+shell_empty None e = refl
+shell_empty (Some x) e = cc
 
-pub unseen : (Low : Label → Bool) (h : Kind) (l : Label) (x : Contents) → Low l ≡ false → shown Low (holding h l x) ≡ Empty
+pub unseen : (Low : Label → Bool) (h : Kind) (l : Label) (x : Contents) → Low l ≡ false → shown Low (holding h l x) ≡ None
 unfolding shown
 unseen Low h l x e = rw e
 
@@ -94,7 +93,7 @@ module _ (P : Program) (Low : Label → Bool) (D : LowSet P Low) where
       record { within = λ p i. i; fresh = fr; sized = refl; shells = λ p n. refl; stays = h; hides = λ e p. refl }
 
   -- a record's contents are replaced
-  write_kept : (a : Account) (σ : Store) (p : ℕ) (x : Record) (y : Contents) → Fresh a σ → at σ p ≡ Full x
+  write_kept : (a : Account) (σ : Store) (p : ℕ) (x : Record) (y : Contents) → Fresh a σ → at σ p ≡ Some x
       → flows_in P a.label x.label ≡ true → Kept Low a σ a (set σ p (holding x.kind x.label y))
   unfolding shell
   write_kept a σ p x y fr e f =
@@ -102,12 +101,12 @@ module _ (P : Program) (Low : Label → Bool) (D : LowSet P Low) where
         within = λ q i. i;
         fresh = λ q i. (
           rw length-set (fr q i).0,
-          after_set (λ r z. Allotted a r → z ≡ Empty) σ p new Empty (λ r _ j. (fr r j).1) (λ j. clash (fr p j).1) (λ j. (fr p j).1) q i,
+          after_set (λ r z. Allotted a r → z ≡ None) σ p new None (λ r _ j. (fr r j).1) (λ j. clash (fr p j).1) (λ j. (fr p j).1) q i,
         );
         sized = sym (length-set σ p new);
-        shells = λ q n. after_set (λ r z. shell (at σ r) ≡ shell z) σ p new Empty (λ r _. refl) (ap shell e) refl q;
+        shells = λ q n. after_set (λ r z. shell (at σ r) ≡ shell z) σ p new None (λ r _. refl) (ap shell e) refl q;
         stays = λ u. u;
-        hides = λ u q. after_set (λ r z. shown Low (at σ r) ≡ shown Low z) σ p new Empty (λ r _. refl)
+        hides = λ u q. after_set (λ r z. shown Low (at σ r) ≡ shown Low z) σ p new None (λ r _. refl)
             (ap (shown Low) e ∙ unseen Low x.kind x.label x.contents (up a.label x.label f u)
             ∙ sym (unseen Low x.kind x.label y (up a.label x.label f u))) refl q;
       }
@@ -115,7 +114,7 @@ module _ (P : Program) (Low : Label → Bool) (D : LowSet P Low) where
       new : Slot
       new = holding x.kind x.label y
 
-      clash : at σ p ≡ Empty → holding x.kind x.label y ≡ Empty
+      clash : at σ p ≡ None → holding x.kind x.label y ≡ None
       clash g = cc
 
   -- the next place is filled, after a run from account b within the places behind it
@@ -129,17 +128,17 @@ module _ (P : Program) (Low : Label → Bool) (D : LowSet P Low) where
         within = λ p i. omega arith;
         fresh = λ p i. (
           rw length-set (rw (← k.sized) (fr p (omega arith)).0),
-          after_set (λ q z. Allotted a' q → z ≡ Empty) τ a.next (holding h l x) Empty
+          after_set (λ q z. Allotted a' q → z ≡ None) τ a.next (holding h l x) None
               (λ q _ j. shell_empty (at τ q) (sym (k.shells q (λ m. omega arith)) ∙ ap shell (fr q (omega arith)).1))
               (λ j. absurd (omega arith)) (λ j. absurd (omega arith)) p i,
         );
         sized = k.sized ∙ sym (length-set τ a.next (holding h l x));
-        shells = λ p n. after_set (λ q z. ¬ Allotted a q → shell (at σ q) ≡ shell z) τ a.next (holding h l x) Empty
+        shells = λ p n. after_set (λ q z. ¬ Allotted a q → shell (at σ q) ≡ shell z) τ a.next (holding h l x) None
             (λ q _ m. k.shells q (λ i. m (omega arith)))
             (λ m. absurd (m (omega arith)))
             (λ m. absurd (m (omega arith))) p n;
         stays = λ u. rw e1 u;
-        hides = λ u p. after_set (λ q z. shown Low (at σ q) ≡ shown Low z) τ a.next (holding h l x) Empty
+        hides = λ u p. after_set (λ q z. shown Low (at σ q) ≡ shown Low z) τ a.next (holding h l x) None
             (λ q _. k.hides (rw e2 u) q)
             (ap (shown Low) (fr a.next (omega arith)).1 ∙ sym (unseen Low h l x (up a.label l f u)))
             (k.hides (rw e2 u) a.next) p;

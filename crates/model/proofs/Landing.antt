@@ -1,6 +1,7 @@
 -- Where an instruction lets a run go on, and with which label, clearance and frames. If N holds of every place that the code
 -- goes to from a place in N, a run stays in N; and a property of label, clearance and frames that each way to change them
 -- keeps is kept by a run.
+use Rattle.std.specs.Prelude.{None, Some}
 use mathlib.Core.Bool.{true}
 use mathlib.Core.List.{List, [], ◌∷◌}
 use mathlib.Core.Path.{◌≡◌}
@@ -8,7 +9,7 @@ use Prim.Native.Nat.{ℕ, ◌+◌, ◌-◌}
 use lib.Dec.{leb, ltb, eqb}
 use lib.ListN.{length}
 use Rattle.labels.specs.declared.Label.{Label}
-use Rattle.model.specs.State.{Control, Store, Program, flows_in, Runner, at, jump, with_stack}
+use Rattle.model.specs.State.{Control, Store, Program, flows_in, Runner, at, jump, with_stack, Slot}
 use Rattle.model.specs.declared.Account.{Account}
 use Rattle.model.specs.Operands.{Request, none, ends, throws, raises, lowers, labels, opens, makes, writes, blocks, Plan, faults, asks, pop_from, as_number, as_label, pop, pop_number, pop_label, arity, drop_frame, operate, plan}
 use Rattle.model.specs.Effects.{Next, go, stop, fail_to, fail, check_between, check_raise, raised, yield, open_slot, label_slot, write_slot, act}
@@ -17,8 +18,6 @@ use Rattle.model.specs.declared.Datum.{Datum}
 use Rattle.model.specs.declared.Value.{Value}
 use Rattle.model.specs.declared.Contents.{Contents}
 use Rattle.model.specs.declared.Contents.TheVariants.{Value as Holds, Fault}
-use Rattle.model.specs.declared.Slot.{Slot}
-use Rattle.model.specs.declared.Slot.TheVariants.{Empty, Full}
 use Rattle.model.specs.declared.Frame.{Frame}
 use Rattle.model.specs.declared.Instr.{Instr}
 use Rattle.model.specs.declared.Instr.TheVariants.{End, Push, Lab, Get, Set, Pop, Add, Sub, Less, Same, Jump, Ifz, Cur, Clr, Raise, Lower, Flows, Join, Meet, Seal, Open, Labof, New, Read, Write, Block, Try, Done, Throw, Input}
@@ -30,35 +29,12 @@ use Rattle.model.proofs.Plans.{number_of, label_of, handle_of, sealed_of, refere
 -- the places where the run may go on from an instruction, next being the place behind it
 abbrev pub ways : ℕ → Instr → List ℕ
 ways next End = []
-ways next (Push n) = next ∷ []
-ways next (Lab i) = next ∷ []
-ways next (Get i) = next ∷ []
-ways next (Set i) = next ∷ []
-ways next Pop = next ∷ []
-ways next Add = next ∷ []
-ways next Sub = next ∷ []
-ways next Less = next ∷ []
-ways next Same = next ∷ []
+ways next Throw = []
 ways next (Jump t) = t ∷ []
 ways next (Ifz t) = t ∷ next ∷ []
-ways next Cur = next ∷ []
-ways next Clr = next ∷ []
-ways next Raise = next ∷ []
-ways next Lower = next ∷ []
-ways next Flows = next ∷ []
-ways next Join = next ∷ []
-ways next Meet = next ∷ []
-ways next Seal = next ∷ []
-ways next Open = next ∷ []
-ways next Labof = next ∷ []
-ways next New = next ∷ []
-ways next Read = next ∷ []
-ways next Write = next ∷ []
 ways next (Block t n k) = t ∷ next ∷ []
 ways next (Try h) = h ∷ next ∷ []
-ways next Done = next ∷ []
-ways next Throw = []
-ways next (Input i) = next ∷ []
+ways next i = next ∷ []
 
 abbrev pub Each : (ℕ → Type 0) → List ℕ → Type 0
 Each N [] = Unit {0}
@@ -92,16 +68,10 @@ pub record Keeps (P : Program) (N : ℕ → Type 0) (H : Label → Label → Lis
 
 -- a request that doesn't end the run goes on at pc; a body at its target
 abbrev GoesOn : (ℕ → Type 0) → ℕ → Request → Type 0
-GoesOn N pc none = N pc
 GoesOn N pc (ends d) = Unit {0}
 GoesOn N pc (throws n) = Unit {0}
-GoesOn N pc (raises l) = N pc
-GoesOn N pc (lowers l) = N pc
-GoesOn N pc (labels p) = N pc
-GoesOn N pc (opens p) = N pc
-GoesOn N pc (makes h l d) = N pc
-GoesOn N pc (writes p d) = N pc
 GoesOn N pc (blocks b t n k) = N t × N pc
+GoesOn N pc q = N pc
 
 abbrev pub Holding : (Label → Label → List Frame → Type 0) → Account → List Frame → Type 0
 Holding H a fs = H a.label a.clearance fs
@@ -220,8 +190,8 @@ module _ (P : Program) (N : ℕ → Type 0) (H : Label → Label → List Frame 
 
     open_lands : (x : Slot) → N r.pc → Goes (open_slot P c r a σ x)
     unfolding open_slot yield
-    open_lands Empty h = fails 33 0
-    open_lands (Full x) h = raise_lands x.label _ (λ up. contents up x.contents)
+    open_lands None h = fails 33 0
+    open_lands (Some x) h = raise_lands x.label _ (λ up. contents up x.contents)
       where
         contents : ((fs : List Frame) → Holding H a fs → Holding H (raised P x.label a) fs) → (y : Contents)
             → Goes (yield c r (raised P x.label a) σ y)
@@ -230,13 +200,13 @@ module _ (P : Program) (N : ℕ → Type 0) (H : Label → Label → List Frame 
 
     labelled_lands : (x : Slot) → N r.pc → Goes (label_slot c r a σ x)
     unfolding label_slot
-    labelled_lands Empty h = fails 33 0
-    labelled_lands (Full x) h = (h, gr)
+    labelled_lands None h = fails 33 0
+    labelled_lands (Some x) h = (h, gr)
 
     write_lands : (p : ℕ) (d : Datum) (x : Slot) → N r.pc → Goes (write_slot P c r a σ p d x)
     unfolding write_slot
-    write_lands p d Empty h = fails 33 0
-    write_lands p d (Full x) h = between_lands 23 24 x.label _ (λ _ _. (h, gr))
+    write_lands p d None h = fails 33 0
+    write_lands p d (Some x) h = between_lands 23 24 x.label _ (λ _ _. (h, gr))
 
     act_lands : (q : Request) → GoesOn N r.pc q → Goes (act P R c r a σ q)
     unfolding act

@@ -1,4 +1,5 @@
 -- Two stores that an observer can't tell apart, and what keeps them so.
+use Rattle.std.specs.Prelude.{None, Some}
 use mathlib.Core.Bool.{Bool, false}
 use mathlib.Core.Logic.{◌≢◌}
 use mathlib.Core.Path.{◌≡◌, refl, sym, ap, ◌∙◌, subst}
@@ -7,15 +8,13 @@ use native.Mathlib.Omega.{arith}
 use lib.ListN.{length, set, length-set}
 use lib.Seq.{get_or-set_same}
 use Rattle.labels.specs.declared.Label.{Label}
-use Rattle.model.specs.State.{Control, Store, Program, Outcome, at, shown}
+use Rattle.model.specs.State.{Control, Store, Program, Outcome, at, shown, Slot}
 use Rattle.model.specs.declared.Account.{Account}
 use Rattle.model.specs.Effects.{Next, go, stop, holding}
 use Rattle.model.specs.declared.Kind.{Kind}
 use Rattle.model.specs.declared.Datum.{Datum}
 use Rattle.model.specs.declared.Contents.{Contents}
 use Rattle.model.specs.declared.Contents.TheVariants.{Value as Holds, Fault}
-use Rattle.model.specs.declared.Slot.{Slot}
-use Rattle.model.specs.declared.Slot.TheVariants.{Empty, Full}
 use Rattle.model.specs.declared.Ending.{Ending}
 use Rattle.model.specs.declared.Ending.TheVariants.{Result, Fault as Faulted, Spent}
 use Rattle.model.proofs.Tests.{cond_one}
@@ -28,7 +27,7 @@ use Rattle.model.proofs.Plans.{Points, All, all_wider, points_wider, Reach}
 
 -- A place that holds a record in both stores, of one kind and label. What LABOF tells of a hidden record is the same in both.
 abbrev pub Twin : Store → Store → ℕ → Type 0
-Twin σ τ p = (shell (at σ p) ≢ Empty) × (shell (at σ p) ≡ shell (at τ p))
+Twin σ τ p = (shell (at σ p) ≢ None) × (shell (at σ p) ≡ shell (at τ p))
 
 -- a datum that both runs may hold: a handle is to a twin
 abbrev pub Shared : Store → Store → Datum → Type 0
@@ -39,8 +38,8 @@ SharedContents σ τ (Holds d) = Shared σ τ d
 SharedContents σ τ (Fault code n) = Unit {0}
 
 abbrev pub SharedSlot : Store → Store → Slot → Type 0
-SharedSlot σ τ Empty = Unit {0}
-SharedSlot σ τ (Full x) = SharedContents σ τ x.contents
+SharedSlot σ τ None = Unit {0}
+SharedSlot σ τ (Some x) = SharedContents σ τ x.contents
 
 abbrev pub SharedEnding : Store → Store → Ending → Type 0
 SharedEnding σ τ (Result d) = Shared σ τ d
@@ -77,14 +76,14 @@ abbrev pub Grows : Store → Store → Store → Store → Type 0
 Grows σ τ σ' τ' = (p : ℕ) → Twin σ τ p → Twin σ' τ' p
 
 pub shared_grows : (σ τ σ' τ' : Store) → Grows σ τ σ' τ' → (x : Slot) → SharedSlot σ τ x → SharedSlot σ' τ' x
-shared_grows σ τ σ' τ' g Empty h = tt
-shared_grows σ τ σ' τ' g (Full x) h = contents x.contents h
+shared_grows σ τ σ' τ' g None h = tt
+shared_grows σ τ σ' τ' g (Some x) h = contents x.contents h
   where
     contents : (y : Contents) → SharedContents σ τ y → SharedContents σ' τ' y
     contents (Holds d) h = points_wider (Twin σ τ) (Twin σ' τ') g d h
     contents (Fault code n) h = tt
 
-pub shell_full : (h : Kind) (l : Label) (x : Contents) → shell (holding h l x) ≢ Empty
+pub shell_full : (h : Kind) (l : Label) (x : Contents) → shell (holding h l x) ≢ None
 unfolding shell
 shell_full h l x e = let z : ◌≡◌ {A = ℕ} 0 1 = cc in omega arith
 
@@ -96,13 +95,13 @@ shell_alike h l x y = refl
 pub grows_set : (σ τ : Store) (p : ℕ) (h : Kind) (l : Label) (x y : Contents) → length σ ≡ length τ
     → Grows σ τ (set σ p (holding h l x)) (set τ p (holding h l y))
 grows_set σ τ p h l x y sized =
-    after_sets (λ q u v. Twin σ τ q → (shell u ≢ Empty) × (shell u ≡ shell v)) σ τ p (holding h l x) (holding h l y) Empty sized
+    after_sets (λ q u v. Twin σ τ q → (shell u ≢ None) × (shell u ≡ shell v)) σ τ p (holding h l x) (holding h l y) None sized
     (λ q _ t. t) (λ _. (shell_full h l x, shell_alike h l x y)) (λ t. t)
 
 pub place_twin : (σ τ : Store) (p : ℕ) (h : Kind) (l : Label) (x y : Contents) → p < length σ → p < length τ
     → Twin (set σ p (holding h l x)) (set τ p (holding h l y)) p
 place_twin σ τ p h l x y i j =
-    rw (get_or-set_same σ p (holding h l x) Empty i, get_or-set_same τ p (holding h l y) Empty j) (shell_full h l x, shell_alike h l x y)
+    rw (get_or-set_same σ p (holding h l x) None i, get_or-set_same τ p (holding h l y) None j) (shell_full h l x, shell_alike h l x y)
 
 module _ (P : Program) (Low : Label → Bool) where
   -- by two runs, each on its own
@@ -158,7 +157,7 @@ module _ (P : Program) (Low : Label → Bool) where
       old q = (s.alike q, shared_grows σ τ σ' τ' gr (shown Low (at σ q)) (s.shared q))
 
       both : (q : ℕ) → (shown Low (at σ' q) ≡ shown Low (at τ' q)) × SharedSlot σ' τ' (shown Low (at σ' q))
-      both = after_sets (λ q u v. (shown Low u ≡ shown Low v) × SharedSlot σ' τ' (shown Low u)) σ τ p (holding h l x) (holding h l y) Empty
+      both = after_sets (λ q u v. (shown Low u ≡ shown Low v) × SharedSlot σ' τ' (shown Low u)) σ τ p (holding h l x) (holding h l y) None
           s.sized (λ q _. old q) (e, o) (old p)
 
   pub shared_visible : (σ τ : Store) (h : Kind) (l : Label) (x : Contents) → SharedContents σ τ x → SharedSlot σ τ (shown Low (holding h l x))

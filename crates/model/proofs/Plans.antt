@@ -8,7 +8,7 @@ use lib.ListN.{length, get_or, set, drop}
 use Rattle.labels.specs.declared.Label.{Label}
 use Rattle.model.specs.State.{Control, Program, flows_in, value, number, with_stack}
 use Rattle.model.specs.declared.Account.{Account}
-use Rattle.model.specs.Operands.{Request, none, ends, throws, raises, lowers, labels, opens, makes, writes, blocks, Plan, faults, asks, pop_from, as_number, as_label, as_handle, as_sealed, as_reference, pop, pop_number, pop_label, arity, pushes, truth, drop_frame, operate, plan}
+use Rattle.model.specs.Operands.{Request, ends, labels, opens, makes, writes, Plan, faults, asks, pop_from, as_number, as_label, as_handle, as_sealed, as_reference, pop, pop_number, pop_label, arity, pushes, truth, drop_frame, operate, plan}
 use Rattle.model.specs.declared.Kind.{Kind}
 use Rattle.model.specs.declared.Kind.TheVariants.{Sealed, Reference}
 use Rattle.model.specs.declared.Datum.{Datum}
@@ -37,16 +37,12 @@ module _ (T : ℕ → Type 0) where
     pub locals : All c.locals
 
   abbrev pub InRequest : Request → Type 0
-  InRequest none = Unit {0}
   InRequest (ends d) = Points d
-  InRequest (throws n) = Unit {0}
-  InRequest (raises l) = Unit {0}
-  InRequest (lowers l) = Unit {0}
   InRequest (labels p) = T p
   InRequest (opens p) = T p
   InRequest (makes h l d) = Points d
   InRequest (writes p d) = T p × Points d
-  InRequest (blocks b t n k) = Unit {0}
+  InRequest q = Unit {0}
 
   abbrev pub InPlan : Plan → Type 0
   InPlan (faults code) = Unit {0}
@@ -89,34 +85,27 @@ module _ (Q : Plan → Type 0) (fault : (code : ℕ) → Q (faults code)) where
   pub number_of : (d : Datum) (k : ℕ → Plan) → ((n : ℕ) → Q (k n)) → Q (as_number d k)
   unfolding as_number
   number_of (Number n) k f = f n
-  number_of (Labelled l) k f = fault 22
-  number_of (Handle h p) k f = fault 22
+  number_of d k f = fault 22
 
   pub label_of : (d : Datum) (k : Label → Plan) → ((l : Label) → Q (k l)) → Q (as_label d k)
   unfolding as_label
-  label_of (Number n) k f = fault 22
   label_of (Labelled l) k f = f l
-  label_of (Handle h p) k f = fault 22
+  label_of d k f = fault 22
 
   pub handle_of : (d : Datum) (k : ℕ → Plan) → ((h : Kind) (p : ℕ) → d ≡ Handle h p → Q (k p)) → Q (as_handle d k)
   unfolding as_handle
-  handle_of (Number n) k f = fault 22
-  handle_of (Labelled l) k f = fault 22
   handle_of (Handle h p) k f = f h p refl
+  handle_of d k f = fault 22
 
   pub sealed_of : (d : Datum) (k : ℕ → Plan) → ((h : Kind) (p : ℕ) → d ≡ Handle h p → Q (k p)) → Q (as_sealed d k)
   unfolding as_sealed
-  sealed_of (Number n) k f = fault 22
-  sealed_of (Labelled l) k f = fault 22
   sealed_of (Handle Sealed p) k f = f Sealed p refl
-  sealed_of (Handle Reference p) k f = fault 22
+  sealed_of d k f = fault 22
 
   pub reference_of : (d : Datum) (k : ℕ → Plan) → ((h : Kind) (p : ℕ) → d ≡ Handle h p → Q (k p)) → Q (as_reference d k)
   unfolding as_reference
-  reference_of (Number n) k f = fault 22
-  reference_of (Labelled l) k f = fault 22
-  reference_of (Handle Sealed p) k f = fault 22
   reference_of (Handle Reference p) k f = f Reference p refl
+  reference_of d k f = fault 22
 
 -- ── the proof ──
 

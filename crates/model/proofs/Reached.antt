@@ -1,6 +1,7 @@
 -- Every state that a run comes to, in itself or in the body of a block: a property of label, clearance and frames that each
 -- way to change them keeps holds there, the code goes on only where N holds, and no handle is to an empty place. So the
 -- definition's totals, an END past the code and fault 33 of an empty place, are never met.
+use Rattle.std.specs.Prelude.{None}
 use mathlib.Core.Bool.{Bool, true, true≢false}
 use mathlib.Core.List.{List, [], ◌∷◌}
 use mathlib.Core.Logic.{◌≢◌}
@@ -10,10 +11,9 @@ use native.Mathlib.Omega.{arith}
 use Rattle.labels.specs.declared.Label.{Label}
 use Rattle.model.specs.State.{Control, Store, Program, Outcome, Runner, at, jump, with_steps}
 use Rattle.model.specs.declared.Account.{Account}
-use Rattle.model.specs.Operands.{Request, none, ends, throws, raises, lowers, labels, opens, makes, writes, blocks, Plan, asks, plan}
+use Rattle.model.specs.Operands.{Request, labels, opens, writes, blocks, Plan, asks, plan}
 use Rattle.model.specs.Effects.{Next, go, stop, body_control, body_account}
 use Rattle.model.specs.Running.{step, resume, pay, run, runs}
-use Rattle.model.specs.declared.Slot.TheVariants.{Empty}
 use Rattle.model.specs.declared.Frame.{Frame}
 use Rattle.model.proofs.Effects.{account_of, store_of}
 use Rattle.model.proofs.Kept.{LowSet, shell, Fresh, RunnerKept, run_kept, step_kept}
@@ -44,34 +44,22 @@ pub data Reached (P : Program) (c₀ : Control) (a₀ : Account) (σ₀ : Store)
 
 -- the place that a request reads or writes holds a record
 abbrev pub Holds : Store → Request → Type 0
-Holds σ none = Unit {0}
-Holds σ (ends d) = Unit {0}
-Holds σ (throws n) = Unit {0}
-Holds σ (raises l) = Unit {0}
-Holds σ (lowers l) = Unit {0}
-Holds σ (labels p) = at σ p ≢ Empty
-Holds σ (opens p) = at σ p ≢ Empty
-Holds σ (makes h l d) = Unit {0}
-Holds σ (writes p d) = at σ p ≢ Empty
-Holds σ (blocks b t n k) = Unit {0}
+Holds σ (labels p) = at σ p ≢ None
+Holds σ (opens p) = at σ p ≢ None
+Holds σ (writes p d) = at σ p ≢ None
+Holds σ q = Unit {0}
 
 -- ── the proof ──
 
-full : (σ : Store) (p : ℕ) → Twin σ σ p → at σ p ≢ Empty
+full : (σ : Store) (p : ℕ) → Twin σ σ p → at σ p ≢ None
 unfolding shell
 full σ p t e = t.0 (ap shell e)
 
 holds_in : (σ : Store) (q : Request) → InRequest (Twin σ σ) q → Holds σ q
-holds_in σ none i = tt
-holds_in σ (ends d) i = tt
-holds_in σ (throws n) i = tt
-holds_in σ (raises l) i = tt
-holds_in σ (lowers l) i = tt
 holds_in σ (labels p) i = full σ p i
 holds_in σ (opens p) i = full σ p i
-holds_in σ (makes h l d) i = tt
 holds_in σ (writes p d) i = full σ p i.0
-holds_in σ (blocks b t n k) i = tt
+holds_in σ q i = tt
 
 -- every label is seen: the two-run theorem of a run and itself
 abbrev pub any_label : Label → Bool

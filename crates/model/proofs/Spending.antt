@@ -1,4 +1,5 @@
 -- A run ends spent only where no step is left: an instruction that stops it gives a result or a fault.
+use Rattle.std.specs.Prelude.{None, Some}
 use mathlib.Core.Bool.{Bool, true, false, true≢false}
 use mathlib.Core.List.{List, [], ◌∷◌}
 use mathlib.Core.Path.{◌≡◌, refl, sym, ap, ◌∙◌}
@@ -7,7 +8,7 @@ use native.Mathlib.Nat.{le_refl}
 use native.Mathlib.Omega.{arith}
 use lib.Dec.{leb, ltb}
 use Rattle.labels.specs.declared.Label.{Label}
-use Rattle.model.specs.State.{Control, Store, Program, flows_in, Runner, at, jump, with_steps}
+use Rattle.model.specs.State.{Control, Store, Program, flows_in, Runner, at, jump, with_steps, Slot}
 use Rattle.model.specs.declared.Account.{Account}
 use Rattle.model.specs.Operands.{Request, none, ends, throws, raises, lowers, labels, opens, makes, writes, blocks, Plan, faults, asks, plan}
 use Rattle.model.specs.Effects.{Next, go, stop, fail_to, fail, check, check_flow, check_between, raised, yield, open_slot, label_slot, write_slot, act}
@@ -15,8 +16,6 @@ use Rattle.model.specs.Running.{perform, step, resume, pay, run, runs}
 use Rattle.model.specs.declared.Datum.{Datum}
 use Rattle.model.specs.declared.Contents.{Contents}
 use Rattle.model.specs.declared.Contents.TheVariants.{Value as Holds, Fault}
-use Rattle.model.specs.declared.Slot.{Slot}
-use Rattle.model.specs.declared.Slot.TheVariants.{Empty, Full}
 use Rattle.model.specs.declared.Frame.{Frame}
 use Rattle.model.specs.declared.Ending.{Ending}
 use Rattle.model.specs.declared.Ending.TheVariants.{Result, Fault as Faulted, Spent}
@@ -64,18 +63,18 @@ module _ (P : Program) (R : Runner) (σ : Store) where
 
     opened : (r : Control) (x : Slot) → Sound (open_slot P c r a σ x)
     unfolding open_slot
-    opened r Empty = fails 33 0 c a
-    opened r (Full x) = flowing (P.join a.label x.label) a.clearance 24 _ (yields c r (raised P x.label a) x.contents)
+    opened r None = fails 33 0 c a
+    opened r (Some x) = flowing (P.join a.label x.label) a.clearance 24 _ (yields c r (raised P x.label a) x.contents)
 
     labelled : (r : Control) (x : Slot) → Sound (label_slot c r a σ x)
     unfolding label_slot
-    labelled r Empty = fails 33 0 c a
-    labelled r (Full x) = refl
+    labelled r None = fails 33 0 c a
+    labelled r (Some x) = refl
 
     written : (r : Control) (p : ℕ) (d : Datum) (x : Slot) → Sound (write_slot P c r a σ p d x)
     unfolding write_slot
-    written r p d Empty = fails 33 0 c a
-    written r p d (Full x) = between 23 24 x.label _ refl
+    written r p d None = fails 33 0 c a
+    written r p d (Some x) = between 23 24 x.label _ refl
 
     acts : (r : Control) (q : Request) → Sound (act P R c r a σ q)
     unfolding act

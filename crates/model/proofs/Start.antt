@@ -1,4 +1,5 @@
 -- The two-run theorem from the start of a run: input records that differ only in hidden numbers.
+use Rattle.std.specs.Prelude.{None, Some}
 use mathlib.Core.Bool.{Bool, true, false}
 use mathlib.Core.List.{List, [], ◌∷◌, ◌++◌}
 use mathlib.Core.Logic.{◌≢◌}
@@ -7,15 +8,13 @@ use Prim.Native.Nat.{ℕ, zero, suc, ◌+◌, ◌-◌, ◌≤◌, ◌<◌}
 use native.Mathlib.Omega.{arith}
 use lib.ListN.{length, replicate, length-append, length-replicate}
 use Rattle.labels.specs.declared.Label.{Label}
-use Rattle.model.specs.State.{Store, Program, at, value, number, shown}
+use Rattle.model.specs.State.{Store, Program, at, value, number, shown, Slot}
 use Rattle.model.specs.Inputs.{Input, inputs, handles, record_of, input_slots}
 use Rattle.model.specs.Running.{runs, start_control, start_account, start_store}
 use Rattle.model.specs.declared.Kind.{Kind}
 use Rattle.model.specs.declared.Datum.TheVariants.{Number, Handle}
 use Rattle.model.specs.declared.Value.{Value}
 use Rattle.model.specs.declared.Contents.TheVariants.{Value as Holds}
-use Rattle.model.specs.declared.Slot.{Slot}
-use Rattle.model.specs.declared.Slot.TheVariants.{Empty, Full}
 use Rattle.model.proofs.Places.{blank}
 use Rattle.model.proofs.Kept.{LowSet, shell, Fresh, unseen}
 use Rattle.model.proofs.Plans.{All}
@@ -59,22 +58,22 @@ length_slots [] = refl
 length_slots (x ∷ xs) = ap suc (length_slots xs)
 
 -- two inputs of one kind and label
-one_shell : (x y : Input) → x.kind ≡ y.kind → x.label ≡ y.label → shell (Full (record_of x)) ≡ shell (Full (record_of y))
+one_shell : (x y : Input) → x.kind ≡ y.kind → x.label ≡ y.label → shell (Some (record_of x)) ≡ shell (Some (record_of y))
 unfolding shell
 one_shell x y k l = cc
 
 one_visible : (Low : Label → Bool) (x y : Input) → x.kind ≡ y.kind → x.label ≡ y.label → (Low x.label ≡ true → x.number ≡ y.number)
-    → shown Low (Full (record_of x)) ≡ shown Low (Full (record_of y))
+    → shown Low (Some (record_of x)) ≡ shown Low (Some (record_of y))
 one_visible Low x y k l n = test (Low x.label) refl
   where
-    test : (t : Bool) → Low x.label ≡ t → shown Low (Full (record_of x)) ≡ shown Low (Full (record_of y))
+    test : (t : Bool) → Low x.label ≡ t → shown Low (Some (record_of x)) ≡ shown Low (Some (record_of y))
     test true e = let m = n e in cc
     test false e = unseen Low x.kind x.label (Holds (Number x.number)) e
         ∙ sym (unseen Low y.kind y.label (Holds (Number y.number)) (ap Low (sym l) ∙ e))
 
 -- the inputs of a store, and m empty places behind them
 abbrev places : List Input → ℕ → Store
-places xs m = input_slots xs ++ replicate m Empty
+places xs m = input_slots xs ++ replicate m None
 
 alike_places : (Low : Label → Bool) (m : ℕ) (xs ys : List Input) → AlikeInputs Low xs ys → (p : ℕ)
     → (shown Low (at (places xs m) p) ≡ shown Low (at (places ys m) p)) × (shell (at (places xs m) p) ≡ shell (at (places ys m) p))
@@ -85,13 +84,13 @@ alike_places Low m (x ∷ xs) [] h p = absurd h
 alike_places Low m (x ∷ xs) (y ∷ ys) h zero = (one_visible Low x y h.0 h.1 h.2, one_shell x y h.0 h.1)
 alike_places Low m (x ∷ xs) (y ∷ ys) h (suc p) = alike_places Low m xs ys h.3 p
 
-rest_empty : (xs : List Input) (m p : ℕ) → length xs ≤ p → at (places xs m) p ≡ Empty
+rest_empty : (xs : List Input) (m p : ℕ) → length xs ≤ p → at (places xs m) p ≡ None
 unfolding input_slots
-rest_empty [] m p h = blank m p Empty
+rest_empty [] m p h = blank m p None
 rest_empty (x ∷ xs) m zero h = absurd (omega arith)
 rest_empty (x ∷ xs) m (suc p) h = rest_empty xs m p (omega arith)
 
-input_full : (xs : List Input) (m p : ℕ) → p < length xs → shell (at (places xs m) p) ≢ Empty
+input_full : (xs : List Input) (m p : ℕ) → p < length xs → shell (at (places xs m) p) ≢ None
 unfolding input_slots
 input_full [] m p h = absurd (omega arith)
 input_full (x ∷ xs) m zero h = shell_full x.kind x.label (Holds (Number x.number))
@@ -100,7 +99,7 @@ input_full (x ∷ xs) m (suc p) h = input_full xs m p (omega arith)
 -- input records hold numbers
 no_handles : (P : Program) (Low : Label → Bool) (σ τ : Store) (xs : List Input) (m p : ℕ) → SharedSlot σ τ (shown Low (at (places xs m) p))
 unfolding input_slots shown
-no_handles P Low σ τ [] m p = subst (λ (x : Slot). SharedSlot σ τ (shown Low x)) (sym (blank m p Empty)) tt
+no_handles P Low σ τ [] m p = subst (λ (x : Slot). SharedSlot σ τ (shown Low x)) (sym (blank m p None)) tt
 no_handles P Low σ τ (x ∷ xs) m zero = shared_visible P Low σ τ x.kind x.label (Holds (Number x.number)) tt
 no_handles P Low σ τ (x ∷ xs) m (suc p) = no_handles P Low σ τ xs m p
 

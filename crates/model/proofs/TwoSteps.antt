@@ -1,4 +1,5 @@
 -- One instruction in two runs: from states that an observer can't tell apart to states that the observer can't.
+use Rattle.std.specs.Prelude.{None, Some}
 use mathlib.Core.Bool.{Bool, true, false, cond}
 use mathlib.Core.List.{List, [], ◌∷◌}
 use mathlib.Core.Path.{◌≡◌, refl, sym, ap, subst, subst₂}
@@ -8,7 +9,7 @@ use lib.Dec.{leb, ltb}
 use borrow.Author.Tests.{ltb-true, leb-true}
 use lib.ListN.{length, set}
 use Rattle.labels.specs.declared.Label.{Label}
-use Rattle.model.specs.State.{Control, Store, Program, flows_in, Outcome, Runner, at, number, push, jump, with_steps, with_next, shown}
+use Rattle.model.specs.State.{Control, Store, Program, flows_in, Outcome, Runner, at, number, push, jump, with_steps, with_next, shown, Slot}
 use Rattle.model.specs.declared.Account.{Account}
 use Rattle.model.specs.Operands.{Request, none, ends, throws, raises, lowers, labels, opens, makes, writes, blocks, Plan, faults, asks, plan}
 use Rattle.model.specs.Effects.{Next, go, cut, fail_to, fail, check_flow, check_between, check_target, raised, holding, yield, open_slot, label_slot, write_slot, body_control, body_account, outcome, seal_outcome, act}
@@ -20,8 +21,6 @@ use Rattle.model.specs.declared.Datum.TheVariants.{Label as Labelled, Handle}
 use Rattle.model.specs.declared.Contents.{Contents}
 use Rattle.model.specs.declared.Contents.TheVariants.{Value as Holds, Fault}
 use Rattle.model.specs.declared.Record.{Record}
-use Rattle.model.specs.declared.Slot.{Slot}
-use Rattle.model.specs.declared.Slot.TheVariants.{Empty, Full}
 use Rattle.model.specs.declared.Frame.{Frame}
 use Rattle.model.proofs.Tests.{cond_two}
 use Rattle.model.proofs.Effects.{account_of, store_of, yield_of}
@@ -32,18 +31,18 @@ use Rattle.model.proofs.BlockOutcome.{outcome_visible}
 
 -- ── slots that are alike but for their contents ──
 
-same_record : (x y : Record) → Full x ≡ Full y → x ≡ y
+same_record : (x y : Record) → Some x ≡ Some y → x ≡ y
 same_record x y e = cc
 
-same_kind : (x y : Record) → shell (Full x) ≡ shell (Full y) → x.kind ≡ y.kind
+same_kind : (x y : Record) → shell (Some x) ≡ shell (Some y) → x.kind ≡ y.kind
 unfolding shell
 same_kind x y e = ap (λ (z : Record). z.kind) (same_record _ _ e)
 
-same_label : (x y : Record) → shell (Full x) ≡ shell (Full y) → x.label ≡ y.label
+same_label : (x y : Record) → shell (Some x) ≡ shell (Some y) → x.label ≡ y.label
 unfolding shell
 same_label x y e = ap (λ (z : Record). z.label) (same_record _ _ e)
 
-no_shell : (x : Record) → shell Empty ≡ shell (Full x) → ⊥
+no_shell : (x : Record) → shell None ≡ shell (Some x) → ⊥
 unfolding shell
 no_shell x e = let z : ◌≡◌ {A = ℕ} 0 1 = cc in omega arith
 
@@ -86,10 +85,10 @@ module _ (P : Program) (Low : Label → Bool) (D : LowSet P Low) where
 
     label_two : (x y : Slot) → shell x ≡ shell y → LowNext P Low (label_slot c r a σ x) (label_slot c r a τ y)
     unfolding label_slot
-    label_two Empty Empty e = fails 33 0
-    label_two Empty (Full y) e = absurd (no_shell y e)
-    label_two (Full x) Empty e = absurd (no_shell x (sym e))
-    label_two (Full x) (Full y) e =
+    label_two None None e = fails 33 0
+    label_two None (Some y) e = absurd (no_shell y e)
+    label_two (Some x) None e = absurd (no_shell x (sym e))
+    label_two (Some x) (Some y) e =
         subst (λ (l : Label). LowNext P Low (go (push (Labelled x.label) r) a σ) (go (push (Labelled l) r) a τ)) (same_label x y e)
         (goes {c = push (Labelled x.label) r} (pushed (Labelled x.label) tt) s)
 
@@ -122,19 +121,19 @@ module _ (P : Program) (Low : Label → Bool) (D : LowSet P Low) where
         contents : (t : Bool) → Low l ≡ t → LowNext P Low (yield c r (raised P l a) σ x) (yield c r (raised P l a) τ y)
         contents true e =
             subst (λ (z : Contents). LowNext P Low (yield c r (raised P l a) σ x) (yield c r (raised P l a) τ z))
-            (same (subst (λ (t : Bool). cond t (holding h l x) Empty ≡ cond t (holding j l y) Empty) e k))
-            (yield_two (raised P l a) x (subst (λ (t : Bool). SharedSlot σ τ (cond t (holding h l x) Empty)) e o))
+            (same (subst (λ (t : Bool). cond t (holding h l x) None ≡ cond t (holding j l y) None) e k))
+            (yield_two (raised P l a) x (subst (λ (t : Bool). SharedSlot σ τ (cond t (holding h l x) None)) e o))
         contents false e = yield_apart (raised P l a) x y (up P Low D l (P.join a.label l) (D.join_right a.label l) e)
 
     open_two : (x y : Slot) → shell x ≡ shell y → shown Low x ≡ shown Low y → SharedSlot σ τ (shown Low x)
         → LowNext P Low (open_slot P c r a σ x) (open_slot P c r a τ y)
     unfolding open_slot
-    open_two Empty Empty e k o = fails 33 0
-    open_two Empty (Full y) e k o = absurd (no_shell y e)
-    open_two (Full x) Empty e k o = absurd (no_shell x (sym e))
-    open_two (Full x) (Full y) e k o =
-        subst (λ (l : Label). shown Low (Full x) ≡ shown Low (holding y.kind l y.contents)
-        → LowNext P Low (open_slot P c r a σ (Full x)) (open_slot P c r a τ (holding y.kind l y.contents)))
+    open_two None None e k o = fails 33 0
+    open_two None (Some y) e k o = absurd (no_shell y e)
+    open_two (Some x) None e k o = absurd (no_shell x (sym e))
+    open_two (Some x) (Some y) e k o =
+        subst (λ (l : Label). shown Low (Some x) ≡ shown Low (holding y.kind l y.contents)
+        → LowNext P Low (open_slot P c r a σ (Some x)) (open_slot P c r a τ (holding y.kind l y.contents)))
         (same_label x y e) (open_alike x.kind y.kind x.label x.contents y.contents o) k
 
     write_alike : (p : ℕ) (d : Datum) (h : Kind) (l : Label) → Shared σ τ d
@@ -156,10 +155,10 @@ module _ (P : Program) (Low : Label → Bool) (D : LowSet P Low) where
     write_two : (p : ℕ) (d : Datum) (x y : Slot) → Shared σ τ d → shell x ≡ shell y
         → LowNext P Low (write_slot P c r a σ p d x) (write_slot P c r a τ p d y)
     unfolding write_slot
-    write_two p d Empty Empty o e = fails 33 0
-    write_two p d Empty (Full y) o e = absurd (no_shell y e)
-    write_two p d (Full x) Empty o e = absurd (no_shell x (sym e))
-    write_two p d (Full x) (Full y) o e =
+    write_two p d None None o e = fails 33 0
+    write_two p d None (Some y) o e = absurd (no_shell y e)
+    write_two p d (Some x) None o e = absurd (no_shell x (sym e))
+    write_two p d (Some x) (Some y) o e =
         subst₂ (λ (h : Kind) (l : Label). LowNext P Low (check_target P x.label c a σ (go r a (set σ p (holding x.kind x.label (Holds d)))))
         (check_target P l c a τ (go r a (set τ p (holding h l (Holds d))))))
         (same_kind x y e) (same_label x y e) (write_alike p d x.kind x.label o)

@@ -1,7 +1,7 @@
 -- What a request does: faults 23 to 28 in their order, and the effect; and the way of a fault to its handler.
-use Rattle.std.specs.Prelude.{Bool, cond, List, [], ◌∷◌, ℕ, ◌+◌, ◌-◌, leb, ltb, length, set, drop}
+use Rattle.std.specs.Prelude.{Bool, cond, List, [], ◌∷◌, ℕ, ◌+◌, ◌-◌, leb, ltb, length, set, drop, None, Some}
 use Rattle.labels.specs.declared.Label.{Label}
-use Rattle.model.specs.State.{Control, Store, Program, flows_in, Outcome, Runner, at, number, push, with_label, with_clearance, with_steps, with_next}
+use Rattle.model.specs.State.{Control, Store, Program, flows_in, Outcome, Runner, at, number, push, with_label, with_clearance, with_steps, with_next, Slot}
 use Rattle.model.specs.declared.Account.{Account}
 use Rattle.model.specs.Operands.{Request, none, ends, throws, raises, lowers, labels, opens, makes, writes, blocks}
 use Rattle.model.specs.declared.Kind.{Kind}
@@ -11,8 +11,6 @@ use Rattle.model.specs.declared.Datum.TheVariants.{Label as Labelled, Handle}
 use Rattle.model.specs.declared.Value.{Value}
 use Rattle.model.specs.declared.Contents.{Contents}
 use Rattle.model.specs.declared.Contents.TheVariants.{Value as Holds, Fault}
-use Rattle.model.specs.declared.Slot.{Slot}
-use Rattle.model.specs.declared.Slot.TheVariants.{Empty, Full}
 use Rattle.model.specs.declared.Frame.{Frame}
 use Rattle.model.specs.declared.Ending.{Ending}
 use Rattle.model.specs.declared.Ending.TheVariants.{Result, Fault as Faulted, Spent}
@@ -66,7 +64,7 @@ raised P l a = with_label (P.join a.label l) a
 -- ── records. c is the script's part with the operands in place, r without them ──
 
 abbrev pub holding : Kind → Label → Contents → Slot
-holding h l x = Full (record { kind = h; label = l; contents = x })
+holding h l x = Some (record { kind = h; label = l; contents = x })
 
 -- the label is raised already: "OPEN of a sealed fault raises, then throws that fault", and "READ of a reference that holds
 -- a fault raises, then throws it, as OPEN does"
@@ -76,16 +74,16 @@ yield c r a σ (Fault code n) = fail code n c a σ
 
 -- An empty place gives fault 33 here and below; no run of an accepted file or day has a handle to one.
 unfoldable pub open_slot : Program → Control → Control → Account → Store → Slot → Next
-open_slot P c r a σ Empty = fail 33 0 c a σ
-open_slot P c r a σ (Full x) = check_raise P x.label c a σ (yield c r (raised P x.label a) σ x.contents)
+open_slot P c r a σ None = fail 33 0 c a σ
+open_slot P c r a σ (Some x) = check_raise P x.label c a σ (yield c r (raised P x.label a) σ x.contents)
 
 unfoldable pub label_slot : Control → Control → Account → Store → Slot → Next
-label_slot c r a σ Empty = fail 33 0 c a σ
-label_slot c r a σ (Full x) = go (push (Labelled x.label) r) a σ
+label_slot c r a σ None = fail 33 0 c a σ
+label_slot c r a σ (Some x) = go (push (Labelled x.label) r) a σ
 
 unfoldable pub write_slot : Program → Control → Control → Account → Store → ℕ → Datum → Slot → Next
-write_slot P c r a σ p d Empty = fail 33 0 c a σ
-write_slot P c r a σ p d (Full x) =
+write_slot P c r a σ p d None = fail 33 0 c a σ
+write_slot P c r a σ p d (Some x) =
     check_target P x.label c a σ (go r a (set σ p (holding x.kind x.label (Holds d))))
 
 -- ── blocks: in the field's terms toLabeled, the bound being the label of the outcome ──

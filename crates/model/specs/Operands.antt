@@ -39,30 +39,23 @@ pop_from c (v ∷ s) k = k v.datum (with_stack s c)
 
 unfoldable pub as_number : Datum → (ℕ → Plan) → Plan
 as_number (Number n) k = k n
-as_number (Labelled l) k = faults 22
-as_number (Handle h p) k = faults 22
+as_number d k = faults 22
 
 unfoldable pub as_label : Datum → (Label → Plan) → Plan
-as_label (Number n) k = faults 22
 as_label (Labelled l) k = k l
-as_label (Handle h p) k = faults 22
+as_label d k = faults 22
 
 unfoldable pub as_handle : Datum → (ℕ → Plan) → Plan
-as_handle (Number n) k = faults 22
-as_handle (Labelled l) k = faults 22
 as_handle (Handle h p) k = k p
+as_handle d k = faults 22
 
 unfoldable pub as_sealed : Datum → (ℕ → Plan) → Plan
-as_sealed (Number n) k = faults 22
-as_sealed (Labelled l) k = faults 22
 as_sealed (Handle Sealed p) k = k p
-as_sealed (Handle Reference p) k = faults 22
+as_sealed d k = faults 22
 
 unfoldable pub as_reference : Datum → (ℕ → Plan) → Plan
-as_reference (Number n) k = faults 22
-as_reference (Labelled l) k = faults 22
-as_reference (Handle Sealed p) k = faults 22
 as_reference (Handle Reference p) k = k p
+as_reference d k = faults 22
 
 abbrev pub pop : Control → (Datum → Control → Plan) → Plan
 pop c k = pop_from c c.stack k

@@ -1,5 +1,5 @@
 -- One instruction, and a run.
-use Rattle.std.specs.Prelude.{List, [], ◌++◌, ℕ, zero, suc, ◌-◌, length, replicate}
+use Rattle.std.specs.Prelude.{List, [], ◌++◌, ℕ, zero, suc, ◌-◌, length, replicate, None}
 use Rattle.labels.specs.Order.{flow_test, join, meet}
 use Rattle.labels.specs.declared.Label.{Label}
 use Rattle.model.specs.State.{Control, Store, Program, Outcome, Runner, number, jump, with_steps}
@@ -8,7 +8,6 @@ use Rattle.model.specs.Decoding.{fetch, after}
 use Rattle.model.specs.Operands.{Plan, faults, asks, plan}
 use Rattle.model.specs.Effects.{Next, go, stop, fail, act}
 use Rattle.model.specs.Inputs.{Input, handles}
-use Rattle.model.specs.declared.Slot.TheVariants.{Empty}
 use Rattle.model.specs.declared.Ending.TheVariants.{Spent}
 
 unfoldable pub perform : Program → Runner → Control → Account → Store → Plan → Next
@@ -54,4 +53,4 @@ start_account l c s n k = record { label = l; clearance = c; steps = s; next = n
 -- The input records, each in the place of its index; the other places of the store, 256 in all, are empty. How many of
 -- them a run may fill is its account's limit.
 unfoldable pub start_store : Store → Store
-start_store σ = σ ++ replicate (256 - length σ) Empty
+start_store σ = σ ++ replicate (256 - length σ) None

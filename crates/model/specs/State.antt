@@ -1,13 +1,12 @@
 -- Running: "a run has an operand stack of 32 values and 16 locals, up to 8 try frames, label, clearance, steps and
 -- places left". The state in three parts, by who may touch it: the script's own, the account, the store.
-use Rattle.std.specs.Prelude.{Bool, cond, List, ◌∷◌, ℕ, get_or, set}
+use Rattle.std.specs.Prelude.{Bool, cond, List, ◌∷◌, ℕ, get_or, set, Option, None, Some}
 use Rattle.labels.specs.Order.{flows_by}
 use Rattle.labels.specs.declared.Label.{Label}
 use Rattle.model.specs.declared.Datum.{Datum}
 use Rattle.model.specs.declared.Datum.TheVariants.{Number}
 use Rattle.model.specs.declared.Value.{Value}
-use Rattle.model.specs.declared.Slot.{Slot}
-use Rattle.model.specs.declared.Slot.TheVariants.{Empty, Full}
+use Rattle.model.specs.declared.Record.{Record}
 use Rattle.model.specs.declared.Frame.{Frame}
 use Rattle.model.specs.declared.Instr.{Instr}
 use Rattle.model.specs.declared.Ending.{Ending}
@@ -60,16 +59,20 @@ with_next n a = record { label = a.label; clearance = a.clearance; steps = a.ste
 
 -- ── the store ──
 
+-- a place of the store: a record, or none
+abbrev pub Slot : Type 0
+Slot = Option Record
+
 abbrev pub Store : Type 0
 Store = List Slot
 
 abbrev pub at : Store → ℕ → Slot
-at σ p = get_or σ p Empty
+at σ p = get_or σ p None
 
 -- a place as an observer is shown it: a record whose label is not among those that it sees is not there
 unfoldable pub shown : (Label → Bool) → Slot → Slot
-shown Sees Empty = Empty
-shown Sees (Full r) = cond (Sees r.label) (Full r) Empty
+shown Sees None = None
+shown Sees (Some r) = cond (Sees r.label) (Some r) None
 
 -- ── what a run is made under, and how it ends ──
 

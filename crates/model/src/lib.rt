@@ -3,9 +3,12 @@
 
 use labels::Label;
 
+// How many labels a file may have.
+pub const FILE_LABELS: usize = 32;
+
 // The two kinds of record. In the field's terms a sealed record is a labeled value, and a reference a
 // labeled mutable reference.
-#[derive(Clone, Copy)]
+#[derive(Clone, Copy, PartialEq, Eq, Debug)]
 pub enum Kind {
     Sealed,
     Reference,
@@ -24,26 +27,24 @@ pub struct Value {
     pub datum: Datum,
 }
 
-// A record holds a value, or a fault (its code and number): a sealed fault is a delayed exception.
+// A record holds a value, or a fault (its code and number): a sealed fault is a delayed exception. The requirement names the
+// form, an enum with a value case. The code is a number, since a handler gets it as one.
 #[derive(Clone, Copy)]
 pub enum Contents {
     Value(Datum),
     Fault(u32, u32),
 }
 
+// In this order: a one-byte field in front of a label has it copied off its alignment, which is slow.
 #[derive(Clone, Copy)]
 pub struct Record {
-    pub kind: Kind,
     pub label: Label,
     pub contents: Contents,
+    pub kind: Kind,
 }
 
-// A place of the store.
-#[derive(Clone, Copy)]
-pub enum Slot {
-    Empty,
-    Full(Record),
-}
+// A place of the store: a record, or none.
+pub type Slot = Option<Record>;
 
 // A try frame: where its handler starts; how many values were on the stack at TRY, and the clearance that stood there.
 #[derive(Clone, Copy)]
@@ -102,6 +103,27 @@ pub struct Account {
     pub depth: usize,
 }
 
+// The codes of the machine's faults, as scripts see them.
+#[derive(Clone, Copy, PartialEq, Eq, Debug)]
+pub enum FaultCode {
+    StackShort = 20,
+    StackFull = 21,
+    WrongKind = 22,
+    BelowLabel = 23,
+    AboveClearance = 24,
+    BadLowering = 25,
+    NoPlace = 26,
+    NoSteps = 27,
+    TooDeep = 28,
+    // TRY with eight frames, or DONE with none.
+    Frames = 29,
+    Thrown = 30,
+    PastBound = 31,
+    BlockSpent = 32,
+    NoRecord = 33,
+}
+
+// How a run ends. A fault has its code and its number, as in a record.
 #[derive(Clone, Copy)]
 pub enum Ending {
     Result(Datum),

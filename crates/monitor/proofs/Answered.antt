@@ -8,10 +8,13 @@ use native.Mathlib.Omega.{arith}
 use borrow.Author.Tests.{lt-ltb, le-ltb, le-leb, eqb-true, eqb-false}
 use lib.Dec.{leb, ltb, eqb}
 use lib.ListN.{length, drop}
+use Rattle.std.specs.Prelude.{Result, Ok, Err}
+use Rattle.file_sections.specs.Refusals.{refusal_number, refusal_of}
+use Rattle.file_sections.specs.declared.Refusal.{Refusal}
+use Rattle.file_sections.specs.declared.Refusal.TheVariants.{Size, Counts, Offsets, Labels, Start, Records, Code, Reader, Room, Jobs, Ahead}
+use Rattle.file_sections.proofs.Refusals.{number_of}
 use Rattle.view.specs.Layout.{records_at}
 use Rattle.view.specs.Reading.{Reading, refuse, answered}
-use Rattle.view.specs.declared.Answer.{Answer}
-use Rattle.view.specs.declared.Answer.TheVariants.{Refused, Viewed}
 use Rattle.noninterference.specs.Alike.{SameReads, both_refused as reads-refused, both_viewed as reads-viewed}
 use Rattle.reading.specs.Answers.{code_of}
 use Rattle.monitor.specs.Calls.{told, SameCalls, both_refused, both_viewed}
@@ -24,7 +27,7 @@ pub record IsRefused (Number : ℕ → Type 0) (b : List ℕ) (q : Reading) : Ty
 
 -- the whole view over the buffer's start
 abbrev pub viewed : List ℕ → List ℕ → Reading
-viewed v b = record { answer = Viewed (length v); buffer = v ++ drop (length v) b }
+viewed v b = record { answer = Ok (length v); buffer = v ++ drop (length v) b }
 
 -- what the checks of a kind of file, the reader's index and the buffer's length can give
 pub record Numbers (Number : ℕ → Type 0) (r : ℕ) : Type 0 where
@@ -55,25 +58,54 @@ module _ (Number : ℕ → Type 0) (r l : ℕ) (v : List ℕ) (i : ℕ) (b : Lis
 
 -- ── one number for the answer ──
 
--- refusals have one of these numbers, views have 206 bytes at least
-abbrev pub Bounded : (ℕ → Type 0) → Answer → Type 0
-Bounded Number (Refused n) = Number n
-Bounded Number (Viewed n) = records_at ≤ n
+-- a refusal has one of the numbers 1 to 11, and is the one with its number
+pub number_within : (r : Refusal) → (1 ≤ refusal_number r) × (refusal_number r ≤ 11)
+number_within Size = (omega arith, omega arith)
+number_within Counts = (omega arith, omega arith)
+number_within Offsets = (omega arith, omega arith)
+number_within Labels = (omega arith, omega arith)
+number_within Start = (omega arith, omega arith)
+number_within Records = (omega arith, omega arith)
+number_within Code = (omega arith, omega arith)
+number_within Reader = (omega arith, omega arith)
+number_within Room = (omega arith, omega arith)
+number_within Jobs = (omega arith, omega arith)
+number_within Ahead = (omega arith, omega arith)
 
-pub answered_bounded : (Number : ℕ → Type 0) (r l : ℕ) (v : List ℕ) (i : ℕ) (b : List ℕ) → Numbers Number r → (r ≡ 0 → records_at ≤ length v)
-    → Bounded Number (answered r l v i b).answer
-answered_bounded Number r l v i b n long = either (refused_or_viewed Number r l v i b n)
+pub numbered : (r : Refusal) → refusal_of (refusal_number r) ≡ r
+numbered Size = refl
+numbered Counts = refl
+numbered Offsets = refl
+numbered Labels = refl
+numbered Start = refl
+numbered Records = refl
+numbered Code = refl
+numbered Reader = refl
+numbered Room = refl
+numbered Jobs = refl
+numbered Ahead = refl
+
+-- refusals have one of these numbers, views have 206 bytes at least
+abbrev pub Bounded : (ℕ → Type 0) → Result ℕ Refusal → Type 0
+Bounded Number (Err r) = Number (refusal_number r)
+Bounded Number (Ok n) = records_at ≤ n
+
+pub answered_bounded : (Number : ℕ → Type 0) → ((n : ℕ) → Number n → (1 ≤ n) × (n ≤ 11)) → (r l : ℕ) (v : List ℕ) (i : ℕ) (b : List ℕ)
+    → Numbers Number r → (r ≡ 0 → records_at ≤ length v) → Bounded Number (answered r l v i b).answer
+answered_bounded Number within r l v i b n long = either (refused_or_viewed Number r l v i b n)
   where
     either : IsRefused Number b (answered r l v i b) ⊎ ((r ≡ 0) × (answered r l v i b ≡ viewed v b)) → Bounded Number (answered r l v i b).answer
-    either (inl x) = subst (λ (q : Reading). Bounded Number q.answer) (sym x.untouched) x.one_of
+    either (inl x) =
+        let w = within x.number x.one_of in
+        subst (λ (q : Reading). Bounded Number q.answer) (sym x.untouched) (subst Number (sym (number_of x.number w.0 w.1)) x.one_of)
     either (inr x) = subst (λ (q : Reading). Bounded Number q.answer) (sym x.1) (long x.0)
 
 -- the number tells the answer
-pub told_bounded : (Number : ℕ → Type 0) → ((n : ℕ) → Number n → n < records_at) → (r : Answer) → Bounded Number r → told (code_of r) ≡ r
-told_bounded Number small (Refused n) h = rw (lt-ltb n records_at (small n h))
-told_bounded Number small (Viewed n) h = rw (le-ltb n records_at h)
+pub told_bounded : (Number : ℕ → Type 0) (r : Result ℕ Refusal) → Bounded Number r → told (code_of r) ≡ r
+told_bounded Number (Err r) h = rw (lt-ltb (refusal_number r) records_at (omega (arith, (number_within r).1)), numbered r)
+told_bounded Number (Ok n) h = rw (le-ltb n records_at h)
 
 pub same_calls : (Number : ℕ → Type 0) (b d : List ℕ) (p q : Reading) → Bounded Number p.answer → SameReads b d p q
     → SameCalls Number b d (code_of p.answer) p.buffer (code_of q.answer) q.buffer
-same_calls Number b d p q h (reads-refused n) = both_refused n h
+same_calls Number b d p q h (reads-refused r) = both_refused (refusal_number r) h
 same_calls Number b d p q h (reads-viewed v l m) = both_viewed v h l m

@@ -13,8 +13,8 @@ use Rattle.model.specs.Inputs.{input_slots}
 use Rattle.model.specs.Running.{start_store}
 use Rattle.view.specs.Layout.{records_at, length_over}
 use Rattle.view.specs.Reading.{Reading}
-use Rattle.view.specs.declared.Answer.{Answer}
-use Rattle.view.specs.declared.Answer.TheVariants.{Viewed}
+use Rattle.std.specs.Prelude.{Result, Ok}
+use Rattle.file_sections.specs.declared.Refusal.{Refusal}
 use Rattle.view.proofs.Widths.{length_view}
 use Rattle.day_file.specs.declared.Job.{Job}
 use Rattle.day_file.specs.Sections.{day_header, day_label, day_inputs, jobs_of_day, job_from, jobs_from}
@@ -47,7 +47,7 @@ EachJob bs (j ∷ js) (false ∷ ads) σ = EachJob bs js ads σ
 -- the views of a day, whose jobs are each skipped or run
 pub record IsDayViewed (bs : List ℕ) (i : ℕ) (b : List ℕ) (q : Reading) : Type 0 where
   pub jobs : EachJob bs (jobs_of_day bs) (day_admitted bs) (start_store (input_slots (day_inputs bs)))
-  pub shown : q ≡ record { answer = Viewed (length (day_view bs i)); buffer = day_view bs i ++ drop (length (day_view bs i)) b }
+  pub shown : q ≡ record { answer = Ok (length (day_view bs i)); buffer = day_view bs i ++ drop (length (day_view bs i)) b }
 
 day_numbers : (bs : List ℕ) → Numbers DayRefusal (day_refusal bs)
 day_numbers bs =
@@ -84,13 +84,13 @@ module _ (bs : List ℕ) where
 
     -- A day that no check stops is run by the rules: the answer and the whole buffer are those of its jobs' views.
     pub day_demand_2 : day_refusal bs ≡ 0 → i < (day_header bs).labels.count → length (day_view bs i) ≤ length b
-        → day_reading bs i b ≡ record { answer = Viewed (length (day_view bs i)); buffer = day_view bs i ++ drop (length (day_view bs i)) b }
+        → day_reading bs i b ≡ record { answer = Ok (length (day_view bs i)); buffer = day_view bs i ++ drop (length (day_view bs i)) b }
     unfolding day_reading
     day_demand_2 = answered_viewed DayRefusal (day_refusal bs) (day_header bs).labels.count (day_view bs i) i b
 
 -- ── demand 3: silent, on two calls ──
 
-pub two_day_calls : (bs cs : List ℕ) (i : ℕ) (b d : List ℕ) (r q : Answer) (out back : List ℕ)
+pub two_day_calls : (bs cs : List ℕ) (i : ℕ) (b d : List ℕ) (r q : Result ℕ Refusal) (out back : List ℕ)
     → reads r out ≡ day_reading bs i b → reads q back ≡ day_reading cs i d
     → DayAlike bs cs i → length b ≡ length d → SameReads b d (reads r out) (reads q back)
 two_day_calls bs cs i b d r q out back e f A h = subst₂ (SameReads b d) (sym e) (sym f) (day_demand_3 bs cs i b d A h)
@@ -126,11 +126,11 @@ day_least bs i none = views_least (λ l. flows l (day_label bs i)) bs _ _ _ _ (f
 day_bounded : (bs : List ℕ) (i : ℕ) (b : List ℕ) → Bounded DayRefusal (day_reading bs i b).answer
 unfolding day_reading
 day_bounded bs i b =
-    answered_bounded DayRefusal (day_refusal bs) (day_header bs).labels.count (day_view bs i) i b (day_numbers bs) (day_least bs i)
+    answered_bounded DayRefusal (λ n h. (h.0, omega (arith, h.1))) (day_refusal bs) (day_header bs).labels.count (day_view bs i) i b (day_numbers bs) (day_least bs i)
 
 -- The number tells the answer.
 pub day_code_tells : (bs : List ℕ) (i : ℕ) (b : List ℕ) → told (code_of (day_reading bs i b).answer) ≡ (day_reading bs i b).answer
-day_code_tells bs i b = told_bounded DayRefusal (λ n h. omega (arith, h.1)) (day_reading bs i b).answer (day_bounded bs i b)
+day_code_tells bs i b = told_bounded DayRefusal (day_reading bs i b).answer (day_bounded bs i b)
 
 -- Demand 3 on two calls of it.
 pub two_day_c_calls : (bs cs : List ℕ) (i : ℕ) (b d : List ℕ) (r q : ℕ) (out back : List ℕ)

@@ -17,8 +17,8 @@ use Rattle.script_file.specs.Program.{file_inputs, file_program, file_account, f
 use Rattle.script_file.proofs.Answers.{refusal-most, within-limits}
 use Rattle.view.specs.Layout.{records_at, length_over}
 use Rattle.view.specs.Reading.{Reading, file_view, reading, file_view_over}
-use Rattle.view.specs.declared.Answer.{Answer}
-use Rattle.view.specs.declared.Answer.TheVariants.{Viewed}
+use Rattle.std.specs.Prelude.{Result, Ok}
+use Rattle.file_sections.specs.declared.Refusal.{Refusal}
 use Rattle.view.proofs.Widths.{length_view}
 use Rattle.noninterference.specs.Alike.{Alike, SameReads}
 use Rattle.noninterference.proofs.Demand3.{demand_3}
@@ -44,7 +44,7 @@ pub record IsViewed (bs : List ℕ) (i : ℕ) (b : List ℕ) (q : Reading) : Typ
   -- The next place is behind the input records and the places taken, one by one, within those declared.
   pub places_taken : (file_run bs).account.next ≡ (header bs).records.count + places_of (file_payments bs)
   pub places_within : (file_run bs).account.next ≤ (header bs).places
-  pub shown : q ≡ record { answer = Viewed (length (file_view bs i)); buffer = file_view bs i ++ drop (length (file_view bs i)) b }
+  pub shown : q ≡ record { answer = Ok (length (file_view bs i)); buffer = file_view bs i ++ drop (length (file_view bs i)) b }
 
 numbers : (bs : List ℕ) → Numbers FileRefusal (refusal bs)
 numbers bs =
@@ -82,13 +82,13 @@ module _ (bs : List ℕ) (i : ℕ) (b : List ℕ) where
 
   -- A file clear of 1 to 9 is run by the rules: the answer and the whole buffer are those of its run's view.
   pub demand_2 : refusal bs ≡ 0 → i < (header bs).labels.count → length (file_view bs i) ≤ length b
-      → reading bs i b ≡ record { answer = Viewed (length (file_view bs i)); buffer = file_view bs i ++ drop (length (file_view bs i)) b }
+      → reading bs i b ≡ record { answer = Ok (length (file_view bs i)); buffer = file_view bs i ++ drop (length (file_view bs i)) b }
   unfolding reading
   demand_2 = answered_viewed FileRefusal (refusal bs) (header bs).labels.count (file_view bs i) i b
 
 -- ── demand 3: silent, on two calls ──
 
-pub two_calls : (bs cs : List ℕ) (i : ℕ) (b d : List ℕ) (r q : Answer) (out back : List ℕ)
+pub two_calls : (bs cs : List ℕ) (i : ℕ) (b d : List ℕ) (r q : Result ℕ Refusal) (out back : List ℕ)
     → reads r out ≡ reading bs i b → reads q back ≡ reading cs i d
     → Alike bs cs i → length b ≡ length d → SameReads b d (reads r out) (reads q back)
 two_calls bs cs i b d r q out back e f A h = subst₂ (SameReads b d) (sym e) (sym f) (demand_3 bs cs i b d A h)
@@ -102,11 +102,11 @@ view_least bs i = omega (arith, length_view (λ l. flows l (label_at bs i)) (hea
 bounded : (bs : List ℕ) (i : ℕ) (b : List ℕ) → Bounded FileRefusal (reading bs i b).answer
 unfolding reading
 bounded bs i b =
-    answered_bounded FileRefusal (refusal bs) (header bs).labels.count (file_view bs i) i b (numbers bs) (λ _. view_least bs i)
+    answered_bounded FileRefusal (λ n h. (h.0, omega (arith, h.1))) (refusal bs) (header bs).labels.count (file_view bs i) i b (numbers bs) (λ _. view_least bs i)
 
 -- The number tells the answer.
 pub code_tells : (bs : List ℕ) (i : ℕ) (b : List ℕ) → told (code_of (reading bs i b).answer) ≡ (reading bs i b).answer
-code_tells bs i b = told_bounded FileRefusal (λ n h. omega (arith, h.1)) (reading bs i b).answer (bounded bs i b)
+code_tells bs i b = told_bounded FileRefusal (reading bs i b).answer (bounded bs i b)
 
 -- Demand 3 on two calls of it: r and q are what they answer, out and back what they leave in the buffers.
 pub two_c_calls : (bs cs : List ℕ) (i : ℕ) (b d : List ℕ) (r q : ℕ) (out back : List ℕ)

@@ -31,6 +31,7 @@ use Rattle.view.proofs.SameView.{same_view}
 use Rattle.noninterference.specs.Alike.{legible, Alike, SameReads, both_refused, both_viewed}
 use Rattle.noninterference.proofs.Sections.{legible_each, one_or_legible, same_header, same_file_labels, same_file_label, same_code, alike_file_inputs}
 use Rattle.file_sections.specs.Sections.{inputs_over}
+use Rattle.file_sections.specs.Refusals.{refusal_of}
 
 -- ── the labels that a reader sees ──
 
@@ -111,7 +112,7 @@ module _ (b d : List ℕ) (sized : length b ≡ length d) where
       rw (← sized)
       (cond_two (SameReads b d) (leb (length v) (length b))
       (λ e. let le = leb-true (length v) (length b) e in both_viewed v le (omega arith))
-      (λ _. both_refused 9))
+      (λ _. both_refused (refusal_of 9)))
 
   -- the same refusal and number of labels, and one view where nothing is refused
   pub same_reads : (r r' l l' : ℕ) (v v' : List ℕ) (i : ℕ) → r ≡ r' → l ≡ l' → (r ≡ 0 → v ≡ v')
@@ -121,8 +122,8 @@ module _ (b d : List ℕ) (sized : length b ≡ length d) where
       (cond_two (SameReads b d) (eqb r 0)
       (λ e. cond_two (SameReads b d) (ltb i l)
       (λ _. subst (λ (w : List ℕ). SameReads b d (show v b) (show w d)) (ev (eqb-true r 0 e)) (same_shows v))
-      (λ _. both_refused 8))
-      (λ _. both_refused r))
+      (λ _. both_refused (refusal_of 8)))
+      (λ _. both_refused (refusal_of r)))
 
 -- ── demand 3 ──
 

@@ -85,35 +85,12 @@ module _ (code : List ℕ) where
 lands_next : (l c n : ℕ) (is : List ℕ) (i : Instr) → operands_ok l c is i ≡ true → among n is ≡ true → Lands (λ t. among t is ≡ true) n i
 unfolding operands_ok
 lands_next l c n is End e h = tt
-lands_next l c n is (Push x) e h = h
-lands_next l c n is (Lab x) e h = h
-lands_next l c n is (Get x) e h = h
-lands_next l c n is (Set x) e h = h
-lands_next l c n is Pop e h = h
-lands_next l c n is Add e h = h
-lands_next l c n is Sub e h = h
-lands_next l c n is Less e h = h
-lands_next l c n is Same e h = h
+lands_next l c n is Throw e h = tt
 lands_next l c n is (Jump t) e h = e
 lands_next l c n is (Ifz t) e h = (e, h)
-lands_next l c n is Cur e h = h
-lands_next l c n is Clr e h = h
-lands_next l c n is Raise e h = h
-lands_next l c n is Lower e h = h
-lands_next l c n is Flows e h = h
-lands_next l c n is Join e h = h
-lands_next l c n is Meet e h = h
-lands_next l c n is Seal e h = h
-lands_next l c n is Open e h = h
-lands_next l c n is Labof e h = h
-lands_next l c n is New e h = h
-lands_next l c n is Read e h = h
-lands_next l c n is Write e h = h
 lands_next l c n is (Block t s k) e h = (e, h)
 lands_next l c n is (Try t) e h = (e, h)
-lands_next l c n is Done e h = h
-lands_next l c n is Throw e h = tt
-lands_next l c n is (Input x) e h = h
+lands_next l c n is i e h = h
 
 module _ (l c : ℕ) (code : List ℕ) (ok : code_ok l c code ≡ true) where
   -- a place where an instruction starts

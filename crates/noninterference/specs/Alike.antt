@@ -2,16 +2,16 @@
 -- record's label, as the file gives it, doesn't flow to the reading label. Two files are alike for a reading label's index
 -- if they have one length and the same bytes everywhere but in hidden numbers. Where 1 to 4, 6 or 8 applies to either, no
 -- number is hidden and alike means equal." Said once, of the sections that a plain file and a day both have.
-use Rattle.std.specs.Prelude.{Bool, true, false, List, [], ◌∷◌, ◌++◌, ◌≡◌, ℕ, ◌+◌, ◌*◌, ◌≤◌, ◌<◌, ltb, length, drop}
+use Rattle.std.specs.Prelude.{Bool, true, false, List, [], ◌∷◌, ◌++◌, ◌≡◌, ℕ, ◌+◌, ◌*◌, ◌≤◌, ◌<◌, ltb, length, drop, Ok, Err}
 use Rattle.labels.specs.Order.{flows}
 use Rattle.labels.specs.declared.Label.{Label}
 use Rattle.model.specs.Decoding.{byte}
 use Rattle.file_sections.specs.Sections.{Sections, label_of}
 use Rattle.file_sections.specs.Checks.{every}
+use Rattle.file_sections.specs.declared.Refusal.{Refusal}
 use Rattle.script_file.specs.Sections.{header, sections}
 use Rattle.script_file.specs.Checks.{passes1, passes2, passes3, passes4, passes6}
 use Rattle.view.specs.Reading.{Reading}
-use Rattle.view.specs.declared.Answer.TheVariants.{Refused, Viewed}
 
 -- where input record j starts
 abbrev pub record_at : Sections → ℕ → ℕ
@@ -47,7 +47,7 @@ Alike bs cs i = AlikeBy legible sections bs cs i
 -- Two reads, into buffers that held b and d, that their reader can't tell apart: the same refusal and both buffers as they
 -- were, or one view v in both and each buffer's rest as it was.
 pub data SameReads (b d : List ℕ) : Reading → Reading → Type 0 where
-  both_refused : (n : ℕ) → SameReads b d (record { answer = Refused n; buffer = b }) (record { answer = Refused n; buffer = d })
+  both_refused : (r : Refusal) → SameReads b d (record { answer = Err r; buffer = b }) (record { answer = Err r; buffer = d })
   both_viewed : (v : List ℕ) → length v ≤ length b → length v ≤ length d
-      → SameReads b d (record { answer = Viewed (length v); buffer = v ++ drop (length v) b })
-      (record { answer = Viewed (length v); buffer = v ++ drop (length v) d })
+      → SameReads b d (record { answer = Ok (length v); buffer = v ++ drop (length v) b })
+      (record { answer = Ok (length v); buffer = v ++ drop (length v) d })

@@ -1,20 +1,19 @@
 -- A day's jobs under other labels. For a map of labels that keeps flow answers, join and meet: each job's run is the mapped run,
 -- and its end leaves the mapped store; so the turns of a whole day are the mapped turns.
+use Rattle.std.specs.Prelude.{None, Some}
 use mathlib.Core.Bool.{Bool, true, false}
 use mathlib.Core.List.{List, [], ◌∷◌, map}
 use mathlib.Core.Path.{◌≡◌, refl, ap, ap₂, ◌∙◌}
 use Prim.Native.Nat.{ℕ, suc}
 use lib.Dec.{leb, ltb}
 use Rattle.labels.specs.declared.Label.{Label}
-use Rattle.model.specs.State.{Store, Outcome}
+use Rattle.model.specs.State.{Store, Outcome, Slot}
 use Rattle.model.specs.Inputs.{Input, inputs, input_slots}
 use Rattle.model.specs.Running.{runs, start_control, start_account, start_store}
 use Rattle.model.specs.declared.Datum.{Datum}
 use Rattle.model.specs.declared.Datum.TheVariants.{Number, Label as Labelled, Handle}
 use Rattle.model.specs.declared.Contents.{Contents}
 use Rattle.model.specs.declared.Contents.TheVariants.{Value as Holds, Fault}
-use Rattle.model.specs.declared.Slot.{Slot}
-use Rattle.model.specs.declared.Slot.TheVariants.{Empty, Full}
 use Rattle.relabelling.specs.Relabelled.{datum_under, contents_under, slot_under, store_under, outcome_under, input_under}
 use Rattle.relabelling.specs.Keeps.{Order, KeepsOrder, program_in}
 use Rattle.relabelling.proofs.Lists.{cond_under}
@@ -45,8 +44,8 @@ module _ (h : Label → Label) (c : ℕ) where
 
   slot_kept : (x : Slot) → kept_slot c (slot_under h x) ≡ slot_under h (kept_slot c x)
   unfolding kept_slot
-  slot_kept Empty = refl
-  slot_kept (Full r) = ap (λ (x : Contents). Full (record { kind = r.kind; label = h r.label; contents = x })) (contents_kept r.contents)
+  slot_kept None = refl
+  slot_kept (Some r) = ap (λ (x : Contents). Some (record { kind = r.kind; label = h r.label; contents = x })) (contents_kept r.contents)
 
   end-from : (p : ℕ) (σ : Store) → end_from c p (store_under h σ) ≡ store_under h (end_from c p σ)
   unfolding end_from end_slot

@@ -10,7 +10,7 @@ use lib.ListN.{length, drop}
 use Rattle.labels.specs.Tables.{principals}
 use Rattle.labels.specs.Order.{flows}
 use Rattle.labels.specs.declared.Label.{Label}
-use Rattle.view.specs.declared.Answer.TheVariants.{Viewed}
+use Rattle.std.specs.Prelude.{Ok}
 use Rattle.day_file.specs.Sections.{day_header, day_sections, day_label_over, day_label, jobs_of_day}
 use Rattle.day_file.specs.Checks.{passes1, passes2, passes3, passes4_over, passes10_over, passes6, passes7, job_ok, jobs_ok, check, day_refusal_over, day_refusal}
 use Rattle.day_file.specs.declared.Header.{Header}
@@ -136,6 +136,6 @@ module _ (bs : List ℕ) (loads : day_refusal_over 6 bs ≡ 0) where
 
     -- given room, it is read
     pub still_read : (buffer : List ℕ) → i < (day_header bs).labels.count → length (day_view bs i) ≤ length buffer
-        → day_reading bs i buffer ≡ record { answer = Viewed (length (day_view bs i)); buffer = day_view bs i ++ drop (length (day_view bs i)) buffer }
+        → day_reading bs i buffer ≡ record { answer = Ok (length (day_view bs i)); buffer = day_view bs i ++ drop (length (day_view bs i)) buffer }
     unfolding day_reading
     still_read buffer h room = rw (still_loads, lt-ltb i (day_header bs).labels.count h, le-leb (length (day_view bs i)) (length buffer) room)

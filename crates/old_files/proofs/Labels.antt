@@ -1,8 +1,8 @@
 -- The labels of a file, plain or a day, that are well formed over six principals: over eight they are so too, and each is the
 -- repeated one.
+use Rattle.std.specs.Prelude.{Option, None, Some}
 use mathlib.Core.Bool.{true}
 use mathlib.Core.List.{List, map}
-use mathlib.Core.Option.{Option, none, some}
 use mathlib.Core.Path.{◌≡◌, refl, sym, ap, ap₂, ◌∙◌}
 use Prim.Native.Nat.{ℕ}
 use native.Mathlib.Omega.{arith}
@@ -18,22 +18,22 @@ use Rattle.old_files.proofs.Tables.{low}
 use Rattle.old_files.proofs.Order.{flow_repeated}
 use Rattle.old_files.proofs.Entries.{LabelsAlike, labels_alike, at_repeated, at_low}
 
-some_labels : (o : Option (List Label)) → present o ≡ true → (ls : List Label) × (o ≡ some ls)
-some_labels none e = let z : ◌≡◌ {A = ℕ} 0 1 = cc in absurd (omega arith)
-some_labels (some ls) e = (ls, refl)
+some_labels : (o : Option (List Label)) → present o ≡ true → (ls : List Label) × (o ≡ Some ls)
+some_labels None e = let z : ◌≡◌ {A = ℕ} 0 1 = cc in absurd (omega arith)
+some_labels (Some ls) e = (ls, refl)
 
 pub flows_alike : (l m : Label) → flows (repeated l) (repeated m) ≡ flows (low l) (low m)
 flows_alike l m = ap (λ (n : ℕ). eqb n 0) (flow_repeated l m)
 
 module _ (s : Sections) (bs : List ℕ) (passes : labels_pass 6 s bs ≡ true) where
-  listed : (ls : List Label) × (labels_over 6 s bs ≡ some ls)
+  listed : (ls : List Label) × (labels_over 6 s bs ≡ Some ls)
   listed = some_labels (labels_over 6 s bs) passes
 
   alike : LabelsAlike s.labels (label_bytes_of s bs) listed.0
   unfolding labels_over
   alike = labels_alike s.labels (label_bytes_of s bs) listed.0 listed.1
 
-  over_eight : labels_over principals s bs ≡ some (map repeated listed.0)
+  over_eight : labels_over principals s bs ≡ Some (map repeated listed.0)
   unfolding labels_over
   over_eight = alike.over_eight
 

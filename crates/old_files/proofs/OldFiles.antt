@@ -1,5 +1,6 @@
 -- Old files run alike. A file that no check stops over six principals is stopped by none over eight; its run is the same but for
 -- the labels, each of which has its tables repeated in four words; and its view, for any reader, shows the same.
+use Rattle.std.specs.Prelude.{Ok}
 use mathlib.Core.Bool.{Bool, true}
 use mathlib.Core.List.{List, [], ◌∷◌, ◌++◌}
 use mathlib.Core.Path.{◌≡◌, refl, sym, ap, ap₂, ◌∙◌}
@@ -21,7 +22,6 @@ use Rattle.script_file.specs.Checks.{passes1, passes2, passes3, passes4_over, pa
 use Rattle.script_file.specs.Program.{file_program_over, file_account_over, file_run_over, file_run}
 use Rattle.script_file.proofs.Tests.{lowest_each}
 use Rattle.view.specs.Reading.{file_view_over, file_view, reading}
-use Rattle.view.specs.declared.Answer.TheVariants.{Viewed}
 use Rattle.old_files.specs.Repeating.{repeated}
 use Rattle.old_files.specs.Contents.{Contents, contents_of, file_contents, layout, contents_under}
 use Rattle.old_files.proofs.Tables.{low}
@@ -141,6 +141,6 @@ module _ (bs : List ℕ) (loads : refusal_over 6 bs ≡ 0) where
 
     -- given room, it is read
     pub still_read : (buffer : List ℕ) → i < (header bs).labels.count → length (file_view bs i) ≤ length buffer
-        → reading bs i buffer ≡ record { answer = Viewed (length (file_view bs i)); buffer = file_view bs i ++ drop (length (file_view bs i)) buffer }
+        → reading bs i buffer ≡ record { answer = Ok (length (file_view bs i)); buffer = file_view bs i ++ drop (length (file_view bs i)) buffer }
     unfolding reading
     still_read buffer h room = rw (still_loads, lt-ltb i (header bs).labels.count h, le-leb (length (file_view bs i)) (length buffer) room)

@@ -1,4 +1,5 @@
 -- A view is its contents laid out; and an outcome under a map of labels has the contents under that map.
+use Rattle.std.specs.Prelude.{None, Some}
 use mathlib.Core.Bool.{Bool}
 use mathlib.Core.List.{List, [], ◌∷◌, ◌++◌, map}
 use mathlib.Core.Path.{◌≡◌, refl, sym, ap, ap₂, ◌∙◌}
@@ -6,14 +7,12 @@ use Prim.Native.Nat.{ℕ, suc, ◌+◌}
 use native.Mathlib.Omega.{arith}
 use lib.ListN.{length}
 use Rattle.labels.specs.declared.Label.{Label}
-use Rattle.model.specs.State.{Store, Outcome, shown}
+use Rattle.model.specs.State.{Store, Outcome, shown, Slot}
 use Rattle.model.specs.declared.Datum.{Datum}
 use Rattle.model.specs.declared.Datum.TheVariants.{Number, Label as Labelled, Handle}
 use Rattle.model.specs.declared.Contents.TheVariants.{Value as Holds, Fault}
 use Rattle.model.specs.declared.Contents as held
 use Rattle.model.specs.declared.Record.{Record}
-use Rattle.model.specs.declared.Slot.{Slot}
-use Rattle.model.specs.declared.Slot.TheVariants.{Empty, Full}
 use Rattle.model.specs.declared.Ending.{Ending}
 use Rattle.model.specs.declared.Ending.TheVariants.{Result, Fault as Faulted, Spent}
 use Rattle.relabelling.specs.Relabelled.{datum_under, contents_under as heldUnder, record_under, slot_under, store_under, ending_under, outcome_under}
@@ -26,8 +25,8 @@ use Rattle.old_files.specs.Contents.{Placed, Contents, placed_if, records_seen, 
 module _ (n : ℕ) (Reads : Label → Bool) where
   one_field : (p : ℕ) (x : Slot) (rs : List Placed) → placed_fields n (placed_if p x rs) ≡ slot_field n p x ++ placed_fields n rs
   unfolding placed_fields slot_field
-  one_field p Empty rs = refl
-  one_field p (Full r) rs = refl
+  one_field p None rs = refl
+  one_field p (Some r) rs = refl
 
   fields_laid : (p : ℕ) (σ : Store) → record_fields n Reads p σ ≡ placed_fields n (records_seen Reads p σ)
   unfolding record_fields records_seen placed_fields
@@ -41,8 +40,8 @@ counted Reads p [] = refl
 counted Reads p (x ∷ σ) = ap (λ (k : ℕ). one (shown Reads x) + k) (counted Reads (suc p) σ) ∙ more (shown Reads x) (records_seen Reads (suc p) σ)
   where
     more : (y : Slot) (rs : List Placed) → one y + length rs ≡ length (placed_if p y rs)
-    more Empty rs = omega arith
-    more (Full r) rs = omega arith
+    more None rs = omega arith
+    more (Some r) rs = omega arith
 
 pub view_laid_out : (n : ℕ) (Reads : Label → Bool) (s : ℕ) (o : Outcome) → view_over n Reads s o ≡ layout n (contents_of Reads s o)
 unfolding view_over length_over counts final layout
@@ -58,8 +57,8 @@ module _ (h : Label → Label) (Sees Seen : Label → Bool) (e : (l : Label) →
       ap₂ (placed_if p) (shown_under h Sees Seen e x) (records_under (suc p) σ) ∙ each (shown Sees x) (records_seen Sees (suc p) σ)
     where
       each : (y : Slot) (rs : List Placed) → placed_if p (slot_under h y) (map (placed_under h) rs) ≡ map (placed_under h) (placed_if p y rs)
-      each Empty rs = refl
-      each (Full r) rs = refl
+      each None rs = refl
+      each (Some r) rs = refl
 
   pub contents-under : (s : ℕ) (o : Outcome) → contents_of Seen s (outcome_under h o) ≡ contents_under h (contents_of Sees s o)
   contents-under s o =
@@ -82,8 +81,8 @@ module _ (g h : Label → Label) where
   record_twice r = ap (λ (c : held.Contents). record { kind = r.kind; label = h (g r.label); contents = c }) (held_twice r.contents)
 
   slot_twice : (x : Slot) → slot_under h (slot_under g x) ≡ slot_under (λ l. h (g l)) x
-  slot_twice Empty = refl
-  slot_twice (Full r) = ap Full (record_twice r)
+  slot_twice None = refl
+  slot_twice (Some r) = ap Some (record_twice r)
 
   store_twice : (σ : Store) → store_under h (store_under g σ) ≡ store_under (λ l. h (g l)) σ
   store_twice [] = refl

@@ -1,12 +1,10 @@
 -- What a view shows, apart from how wide it is: its contents; and the view as its contents laid out over n principals.
-use Rattle.std.specs.Prelude.{Bool, cond, List, [], ◌∷◌, ◌++◌, map, ℕ, suc, ◌+◌, ◌-◌, ◌*◌, length, replicate}
+use Rattle.std.specs.Prelude.{Bool, cond, List, [], ◌∷◌, ◌++◌, map, ℕ, suc, ◌+◌, ◌-◌, ◌*◌, length, replicate, None, Some}
 use Rattle.labels.specs.Order.{flows}
 use Rattle.labels.specs.declared.Label.{Label}
-use Rattle.model.specs.State.{Store, Outcome, shown}
+use Rattle.model.specs.State.{Store, Outcome, shown, Slot}
 use Rattle.model.specs.declared.Account.{Account}
 use Rattle.model.specs.declared.Record.{Record}
-use Rattle.model.specs.declared.Slot.{Slot}
-use Rattle.model.specs.declared.Slot.TheVariants.{Empty, Full}
 use Rattle.model.specs.declared.Ending.{Ending}
 use Rattle.relabelling.specs.Relabelled.{record_under, account_under, ending_under}
 use Rattle.script_file.specs.Sections.{header, label_at_over}
@@ -32,8 +30,8 @@ pub record Contents : Type 0 where
 -- ── what a view is of ──
 
 abbrev pub placed_if : ℕ → Slot → List Placed → List Placed
-placed_if p Empty rs = rs
-placed_if p (Full r) rs = record { place = p; holds = r } ∷ rs
+placed_if p None rs = rs
+placed_if p (Some r) rs = record { place = p; holds = r } ∷ rs
 
 -- the records of a store that are shown, the first being at place p
 unfoldable pub records_seen : (Label → Bool) → ℕ → Store → List Placed

@@ -1,9 +1,6 @@
 -- What the code finds of a file's labels and input records.
-use Rattle.std.proofs.Common.{◌≡◌, ℕ, zero, suc, ◌+◌, ◌*◌, ◌<◌, ◌≤◌, Bool, true, false, cond, ltb, ◌≢◌, List, length, get_or, sym, refl, ap, ◌∙◌, add-zero, zero-add, arith, ltb-false, ltb-true, le-ltb, lt-ltb}
-use Rattle.labels.specs.Order.{no_label}
-use Rattle.labels.specs.Words.{words_in_label}
+use Rattle.std.proofs.Common.{◌≡◌, ℕ, zero, suc, ◌+◌, ◌*◌, ◌<◌, ◌≤◌, Bool, true, false, cond, ltb, ◌≢◌, List, get_or, sym, refl, ap, ◌∙◌, add-zero, zero-add, arith, ltb-false, ltb-true, le-ltb, lt-ltb}
 use Rattle.labels.specs.declared.Label.{Label}
-use Rattle.labels.proofs.Words.{label_past}
 use Rattle.model.specs.declared.Kind.TheVariants.{Reference}
 use Rattle.model.specs.declared.Value.{Value}
 use Rattle.model.specs.declared.Datum.{Datum}
@@ -11,16 +8,12 @@ use Rattle.model.specs.declared.Datum.TheVariants.{Number, Handle}
 use Rattle.model.specs.State.{value, number}
 use Rattle.model.specs.Decoding.{byte}
 use Rattle.model.specs.Inputs.{kind_of, inputs, handles}
-use Rattle.model.specs.Words.{label_in, file_words}
+use Rattle.model.specs.FileLabels.{label_in}
 use Rattle.operands.specs.Program.{count, program}
 
 -- what INPUT pushes
 unfoldable pub input_at : List ℕ → ℕ → Datum
 input_at rs i = cond (ltb i (count rs)) (Handle (kind_of (byte rs (6 * i))) i) (Number 0)
-
-pub label_out : (ws : List ℕ) (i : ℕ) → length ws ≡ file_words → 32 ≤ i → no_label ≡ label_in ws i
-unfolding label_in
-label_out ws i e h = sym (label_past ws (words_in_label * i) (omega arith))
 
 input_handle : (ls : ℕ → Label) (bs : List ℕ) (n b p i : ℕ) → i < n
     → get_or (handles p (inputs ls bs n b)) i (number 0) ≡ value (Handle (kind_of (byte bs (b + 6 * i))) (p + i))
@@ -50,11 +43,11 @@ input_out : (rs : List ℕ) (i : ℕ) → count rs ≤ i → Number 0 ≡ input_
 unfolding input_at
 input_out rs i h = rw (le-ltb i (count rs) h)
 
-pub input-at : (code ws rs : List ℕ) (i : ℕ) → input_at rs i ≡ (get_or (program code ws rs).inputs i (number 0)).datum
+pub input-at : (code : List ℕ) (ls : List Label) (rs : List ℕ) (i : ℕ) → input_at rs i ≡ (get_or (program code ls rs).inputs i (number 0)).datum
 unfolding program
-input-at code ws rs i = test (ltb i (count rs)) refl where
-  test : (b : Bool) → ltb i (count rs) ≡ b → input_at rs i ≡ (get_or (handles 0 (inputs (label_in ws) rs (count rs) 0)) i (number 0)).datum
+input-at code ls rs i = test (ltb i (count rs)) refl where
+  test : (b : Bool) → ltb i (count rs) ≡ b → input_at rs i ≡ (get_or (handles 0 (inputs (label_in ls) rs (count rs) 0)) i (number 0)).datum
   test true e =
-      sym (input_in rs i (ltb-true i (count rs) e)) ∙ ap (λ (v : Value). v.datum) (sym (rw (zero-add (6 * i), zero-add i) at (input_handle (label_in ws) rs (count rs) 0 0 i (ltb-true i (count rs) e))))
+      sym (input_in rs i (ltb-true i (count rs) e)) ∙ ap (λ (v : Value). v.datum) (sym (rw (zero-add (6 * i), zero-add i) at (input_handle (label_in ls) rs (count rs) 0 0 i (ltb-true i (count rs) e))))
   test false e =
-      sym (input_out rs i (ltb-false i (count rs) e)) ∙ ap (λ (v : Value). v.datum) (sym (input_none (label_in ws) rs (count rs) 0 0 i (ltb-false i (count rs) e)))
+      sym (input_out rs i (ltb-false i (count rs) e)) ∙ ap (λ (v : Value). v.datum) (sym (input_none (label_in ls) rs (count rs) 0 0 i (ltb-false i (count rs) e)))

@@ -1,6 +1,6 @@
 -- What the code makes of an instruction's operands, as far as they are numbers: a decision, or a task for `effects`. These
 -- follow the code; `decision_performs` (effects/proofs/Bridge) ties them to the machine's definition.
-use Rattle.std.specs.Prelude.{ℕ, ◌+◌, ◌-◌, ◌*◌, ◌%◌, ◌^◌, Bool, true, false, cond, List, ◌==◌, nat_lt}
+use Rattle.std.specs.Prelude.{ℕ, ◌+◌, ◌-◌, ◌*◌, ◌%◌, ◌^◌, Bool, true, false, cond, List, None, ◌==◌, nat_lt}
 use Rattle.labels.specs.declared.Label.{Label}
 use Rattle.labels.specs.Order.{flows, no_label}
 use Rattle.model.specs.Decoding.{byte}
@@ -10,7 +10,6 @@ use Rattle.model.specs.declared.Datum.{Datum}
 use Rattle.model.specs.declared.Datum.TheVariants.{Number, Label as Labelled, Handle}
 use Rattle.model.specs.declared.Instr.{Instr}
 use Rattle.model.specs.declared.Instr.TheVariants.{End, Push, Lab, Get, Set, Pop, Add, Sub, Less, Same, Jump, Ifz, Cur, Clr, Raise, Lower, Flows, Join, Meet, Seal, Open, Labof, New, Read, Write, Block, Try, Done, Throw, Input}
-use Rattle.operands.specs.declared.By.TheVariants.{None as NotRaised}
 use Rattle.operands.specs.declared.Origin.TheVariants.{File, Current, Clearance}
 use Rattle.operands.specs.declared.Both.TheVariants.{Join as JoinOf, Meet as MeetOf}
 use Rattle.operands.specs.declared.Effect.{Effect}
@@ -36,7 +35,7 @@ decided k e = record { takes = k; effect = e }
 
 -- a fault that raises no label
 abbrev pub thrown : ℕ → ℕ → Decision
-thrown code n = decided 0 (Fault NotRaised code n)
+thrown code n = decided 0 (Fault None code n)
 
 abbrev pub faulty : ℕ → Decision
 faulty code = thrown code 0
@@ -64,7 +63,7 @@ numbers_of f y x = on_number y (λ b. on_number x (λ a. arith_of f b a))
 
 abbrev pub test_of : Test → ℕ → Decision
 test_of (Branch t) n = cond (n == 0) (decided 1 (Jumps t)) (decided 1 Drop)
-test_of Throws n = decided 0 (Fault NotRaised 30 n)
+test_of Throws n = thrown 30 n
 
 abbrev pub number_of : Test → Datum → Decision
 number_of f y = on_number y (test_of f)

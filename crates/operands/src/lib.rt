@@ -1,14 +1,15 @@
-// What an instruction has to look at, and what it comes to on numbers: faults 20, 21, 22 and 29. Nothing that is answered
+// What an instruction has to look at, and what it comes to on numbers: faults 20, 21, 22, 29 and 30. Nothing that is answered
 // here holds a label or a value: an effect says where it lies.
 #![tactic(auto)]
 
-ghost use Rattle.std.specs.Prelude.{◌≡◌, ◌^◌, ◌<◌, length};
+ghost use Rattle.std.specs.Prelude.{◌≡◌};
+ghost use Rattle.model.specs.FileLabels.{label_in};
 ghost use Rattle.model.specs.Inputs.{kind_of};
-ghost use Rattle.model.specs.Words.{label_in, file_words};
-ghost use Rattle.operands.specs.Tasks.{decided, thrown, faulty, bit_of, arith_of, numbers_of, test_of, number_of, on_numbers, label_of, pair_of, labels_of, short_of, push_of, try_of, done_of, input_of, task_of};
+ghost use Rattle.operands.specs.Tasks.{decided, thrown, faulty, bit_of, arith_of, numbers_of, test_of, number_of, on_numbers};
+ghost use Rattle.operands.specs.Tasks.{label_of, pair_of, labels_of, short_of, push_of, try_of, done_of, input_of, task_of};
 
 use labels::Label;
-use model::{Datum, Instr, Kind};
+use model::{Datum, FILE_LABELS, FaultCode, Instr, Kind};
 
 // Where a label lies that is to be pushed.
 #[derive(Clone, Copy)]
@@ -28,18 +29,11 @@ pub enum Both {
     Meet,
 }
 
-// What a fault raises the label by: nothing, or the label of the record at a place.
-#[derive(Clone, Copy)]
-pub enum By {
-    None,
-    Record(usize),
-}
-
 // What the run state has to take over, its operands dropped: small words only.
 #[derive(Clone, Copy)]
 pub enum Effect {
-    // what raises the label, code, number
-    Fault(By, u32, u32),
+    // the place of the record whose label raises the label, if one does; code, number
+    Fault(Option<usize>, u32, u32),
     // nothing more
     Drop,
     Jump(usize),
@@ -149,7 +143,7 @@ pub fn decides(takes: usize, effect: Effect) -> Decision
 pub fn thrown(code: u32, number: u32) -> Decision
     ensures { result ≡ thrown code number }
 {
-    decides(0, Effect::Fault(By::None, code, number))
+    decides(0, Effect::Fault(None, code, number))
 }
 
 // A fault that raises no label, with number 0.
@@ -159,24 +153,28 @@ pub fn faulty(code: u32) -> Decision
     thrown(code, 0)
 }
 
+// Fault 22: an operand is of another kind.
+pub fn wrong_kind() -> Decision
+    ensures { result ≡ faulty 22 }
+{
+    faulty(FaultCode::WrongKind as u32)
+}
+
 // ---- numbers
 
 // 1 or 0, for two operands.
 fn bit(b: bool) -> Decision
     ensures { result ≡ bit_of b }
 {
-    if b {
-        return decides(2, Effect::Number(1));
-    }
-    decides(2, Effect::Number(0))
+    decides(2, Effect::Number(u32::from(b)))
 }
 
 fn computed(f: Arith, y: u32, x: u32) -> Decision
     ensures { result ≡ arith_of f y x }
 {
     match f {
-        Arith::Add => decides(2, Effect::Number(std::num::wrapping_add_u32(x, y))),
-        Arith::Sub => decides(2, Effect::Number(std::num::wrapping_sub_u32(x, y))),
+        Arith::Add => decides(2, Effect::Number(x.wrapping_add(y))),
+        Arith::Sub => decides(2, Effect::Number(x.wrapping_sub(y))),
         Arith::Less => bit(x < y),
         Arith::Same => bit(x == y),
     }
@@ -186,15 +184,13 @@ fn computed(f: Arith, y: u32, x: u32) -> Decision
 fn numbers(f: Arith, y: Datum, x: Datum) -> Decision
     ensures { result ≡ numbers_of f y x }
 {
-    match y {
-        Datum::Number(b) => match x {
-            Datum::Number(a) => computed(f, b, a),
-            Datum::Label(_) => faulty(22),
-            Datum::Handle(_, _) => faulty(22),
-        },
-        Datum::Label(_) => faulty(22),
-        Datum::Handle(_, _) => faulty(22),
-    }
+    let Datum::Number(b) = y else {
+        return wrong_kind();
+    };
+    let Datum::Number(a) = x else {
+        return wrong_kind();
+    };
+    computed(f, b, a)
 }
 
 fn tested(f: Test, n: u32) -> Decision
@@ -207,7 +203,7 @@ fn tested(f: Test, n: u32) -> Decision
             }
             decides(1, Effect::Drop)
         }
-        Test::Throw => decides(0, Effect::Fault(By::None, 30, n)),
+        Test::Throw => thrown(FaultCode::Thrown as u32, n),
     }
 }
 
@@ -215,11 +211,10 @@ fn tested(f: Test, n: u32) -> Decision
 fn number(f: Test, y: Datum) -> Decision
     ensures { result ≡ number_of f y }
 {
-    match y {
-        Datum::Number(n) => tested(f, n),
-        Datum::Label(_) => faulty(22),
-        Datum::Handle(_, _) => faulty(22),
-    }
+    let Datum::Number(n) = y else {
+        return wrong_kind();
+    };
+    tested(f, n)
 }
 
 // What the top two of the stack come to as numbers.
@@ -238,11 +233,10 @@ pub fn on_numbers(t: NumberTask, y: Datum, x: Datum) -> Decision
 pub fn label_of(d: Datum) -> Label
     ensures { result ≡ label_of d }
 {
-    match d {
-        Datum::Number(_) => labels::no_label(),
-        Datum::Label(l) => l,
-        Datum::Handle(_, _) => labels::no_label(),
-    }
+    let Datum::Label(l) = d else {
+        return labels::no_label();
+    };
+    l
 }
 
 fn of_pair(f: Pair, m: Label, l: Label) -> Decision
@@ -259,31 +253,29 @@ fn of_pair(f: Pair, m: Label, l: Label) -> Decision
 pub fn two_labels(f: Pair, y: Datum, x: Datum) -> Decision
     ensures { result ≡ labels_of f y x }
 {
-    match y {
-        Datum::Number(_) => faulty(22),
-        Datum::Label(m) => match x {
-            Datum::Number(_) => faulty(22),
-            Datum::Label(l) => of_pair(f, m, l),
-            Datum::Handle(_, _) => faulty(22),
-        },
-        Datum::Handle(_, _) => faulty(22),
-    }
+    let Datum::Label(m) = y else {
+        return wrong_kind();
+    };
+    let Datum::Label(l) = x else {
+        return wrong_kind();
+    };
+    of_pair(f, m, l)
 }
 
 // ---- the file's own values
 
-// Label i of the file.
-pub fn label_at(labels: &[u64], i: usize) -> Label
-    requires { length labels.now ≡ file_words }
+// Label i of the file; ⟨False, False⟩ behind the last.
+#[tactic(auto, unfolding(model::specs::FileLabels::label_in))]
+pub fn label_at(labels: &[Label; FILE_LABELS], i: usize) -> Label
     ensures { result ≡ label_in labels.now i }
 {
-    if 32 <= i {
-        return labels::no_label();
-    }
-    labels::label_from(labels, labels::LABEL_WORDS * i)
+    labels.get(i).copied().unwrap_or(labels::no_label())
 }
 
-// The kind of an input record, by the first of its six bytes.
+// The bytes of an input record.
+const INPUT: usize = 6;
+
+// The kind of an input record, by the first of its bytes. Total, as the definition is: check 6 has let 0 and 1 alone pass.
 pub fn kind_of(b: u8) -> Kind
     ensures { result ≡ kind_of b }
 {
@@ -297,10 +289,10 @@ pub fn kind_of(b: u8) -> Kind
 fn input(records: &[u8], i: usize) -> Effect
     ensures { result ≡ input_of records.now i }
 {
-    if records.len() / 6 <= i {
+    if records.len() / INPUT <= i {
         return Effect::Number(0);
     }
-    Effect::Handle(kind_of(records[6 * i]), i)
+    Effect::Handle(kind_of(records[INPUT * i]), i)
 }
 
 // ---- the instructions
@@ -310,11 +302,12 @@ fn short(height: usize, takes: usize, p: Task) -> Task
     ensures { result ≡ short_of height takes p }
 {
     if height < takes {
-        return Task::Do(faulty(20));
+        return Task::Do(faulty(FaultCode::StackShort as u32));
     }
     p
 }
 
+// A task on a label, and on a handle: a variant each.
 fn label_task(height: usize, takes: usize, f: OnLabel) -> Task
     ensures { result ≡ short_of height takes (Task.Labels (LabelTask.Label f)) }
 {
@@ -328,11 +321,25 @@ fn handle_task(height: usize, takes: usize, f: OnHandle) -> Task
 }
 
 // Fault 21.
+fn full() -> Task
+    ensures { result ≡ Task.Do (faulty 21) }
+{
+    Task::Do(faulty(FaultCode::StackFull as u32))
+}
+
+// Fault 29.
+fn no_frame() -> Task
+    ensures { result ≡ Task.Do (faulty 29) }
+{
+    Task::Do(faulty(FaultCode::Frames as u32))
+}
+
+// One more value on the stack.
 fn push(height: usize, e: Effect) -> Task
     ensures { result ≡ push_of height e }
 {
     if 31 < height {
-        return Task::Do(faulty(21));
+        return full();
     }
     Task::Do(decides(0, e))
 }
@@ -342,19 +349,19 @@ fn try_frame(height: usize, frames: usize, h: usize) -> Task
     ensures { result ≡ try_of height frames h }
 {
     if 30 < height {
-        return Task::Do(faulty(21));
+        return full();
     }
     if frames < 8 {
         return Task::Do(decides(0, Effect::Try(h)));
     }
-    Task::Do(faulty(29))
+    no_frame()
 }
 
 fn done(frames: usize) -> Task
     ensures { result ≡ done_of frames }
 {
     if frames == 0 {
-        return Task::Do(faulty(29));
+        return no_frame();
     }
     Task::Do(decides(0, Effect::Done))
 }

@@ -5,8 +5,7 @@ use file_lines::ROOM;
 use std::io;
 
 // Prints the lines of a file.
+#[tactic(auto, using(view_fields::proofs::Buffers::written_within))]
 pub fn print_file(rt: &impl Print, file: &[u8]) -> io::Result<()> {
-    let mut out = [0u8; ROOM];
-    let n = file_lines::write_printed(file, &mut out);
-    rt.write_all(&out[..n])
+    streams::print_written::<ROOM, _>(rt, |out| file_lines::write_printed(file, out))
 }

@@ -1,4 +1,5 @@
 -- One instruction of a run without frames: it costs at most what its node says, and goes on at one of the node's successors.
+use Rattle.std.specs.Prelude.{None, Some}
 use mathlib.Core.Bool.{Bool, true, false, true≢false, cond, ◌&&◌}
 use mathlib.Core.List.{List, [], ◌∷◌}
 use mathlib.Core.Path.{◌≡◌, refl, sym, subst}
@@ -7,7 +8,7 @@ use native.Mathlib.Omega.{arith}
 use lib.Dec.{leb, ltb, eqb}
 use lib.ListN.{length}
 use Rattle.labels.specs.declared.Label.{Label}
-use Rattle.model.specs.State.{Control, Store, Program, flows_in, Runner, at, jump, with_stack}
+use Rattle.model.specs.State.{Control, Store, Program, flows_in, Runner, at, jump, with_stack, Slot}
 use Rattle.model.specs.declared.Account.{Account}
 use Rattle.model.specs.Operands.{Request, none, ends, throws, raises, lowers, labels, opens, makes, writes, blocks, Plan, faults, asks, pop_from, as_number, as_label, pop, pop_number, pop_label, arity, drop_frame, operate, plan}
 use Rattle.model.specs.Effects.{Next, go, stop, fail_to, fail, check, check_flow, check_between, raised, yield, open_slot, label_slot, write_slot, act}
@@ -16,8 +17,6 @@ use Rattle.model.specs.declared.Datum.{Datum}
 use Rattle.model.specs.declared.Value.{Value}
 use Rattle.model.specs.declared.Contents.{Contents}
 use Rattle.model.specs.declared.Contents.TheVariants.{Value as Holds, Fault}
-use Rattle.model.specs.declared.Slot.{Slot}
-use Rattle.model.specs.declared.Slot.TheVariants.{Empty, Full}
 use Rattle.model.specs.declared.Frame.{Frame}
 use Rattle.model.specs.declared.Instr.{Instr}
 use Rattle.model.specs.declared.Instr.TheVariants.{End, Push, Lab, Get, Set, Pop, Add, Sub, Less, Same, Jump, Ifz, Cur, Clr, Raise, Lower, Flows, Join, Meet, Seal, Open, Labof, New, Read, Write, Block, Try, Done, Throw, Input}
@@ -196,18 +195,18 @@ module _ (P : Program) (R : Runner) (is : List ℕ) (c : Control) (g : c.frames 
 
       opened : (x : Slot) → among r.pc is ≡ true → Goes (open_slot P c r a σ x)
       unfolding open_slot
-      opened Empty h = fails 33 0 a
-      opened (Full x) h = flowing (P.join a.label x.label) a.clearance 24 _ (yields (raised P x.label a) x.contents h)
+      opened None h = fails 33 0 a
+      opened (Some x) h = flowing (P.join a.label x.label) a.clearance 24 _ (yields (raised P x.label a) x.contents h)
 
       labelled : (x : Slot) → among r.pc is ≡ true → Goes (label_slot c r a σ x)
       unfolding label_slot
-      labelled Empty h = fails 33 0 a
-      labelled (Full x) h = (k, h)
+      labelled None h = fails 33 0 a
+      labelled (Some x) h = (k, h)
 
       written : (p : ℕ) (d : Datum) (x : Slot) → among r.pc is ≡ true → Goes (write_slot P c r a σ p d x)
       unfolding write_slot
-      written p d Empty h = fails 33 0 a
-      written p d (Full x) h = between 23 24 x.label _ (k, h)
+      written p d None h = fails 33 0 a
+      written p d (Some x) h = between 23 24 x.label _ (k, h)
 
       act_follows : (q : Request) → GoesTo is r.pc q → Goes (act P R c r a σ q)
       unfolding act

@@ -3,6 +3,7 @@ pub mod Largest
 pub mod Nodes
 pub mod Suffixes
 pub mod Onwards
+pub mod Opcodes
 pub mod Pass
 pub mod Files
 pub mod Promises

@@ -1,46 +1,65 @@
--- An instruction's node by its opcode, and where a path goes from it.
+-- What an instruction's node costs, and where a path goes from it.
 use mathlib.Core.Bool.{true, true≢false}
 use mathlib.Core.List.{List, [], ◌∷◌, map}
 use mathlib.Core.Logic.{◌⊎◌, inl, inr}
-use mathlib.Core.Path.{◌≡◌, refl, sym, ap, ◌∙◌, subst}
+use mathlib.Core.Path.{◌≡◌, refl, sym, subst}
 use Prim.Native.Nat.{ℕ, zero, suc, ◌+◌, ◌≤◌, ◌<◌}
 use native.Mathlib.Omega.{arith}
 use borrow.Author.Tests.{ltb-true}
-use lib.ListN.{length, get_or, replicate}
-use Rattle.model.specs.Decoding.{byte, u16, known, instrs, fetch, after}
+use lib.ListN.{get_or}
+use Rattle.model.specs.Decoding.{byte, u16, instrs, fetch, after}
 use Rattle.model.specs.declared.Instr.{Instr}
 use Rattle.model.specs.declared.Instr.TheVariants.{End, Push, Lab, Get, Set, Pop, Add, Sub, Less, Same, Jump, Ifz, Cur, Clr, Raise, Lower, Flows, Join, Meet, Seal, Open, Labof, New, Read, Write, Block, Try, Done, Throw, Input}
-use Rattle.model.proofs.Places.{blank}
 use Rattle.model.proofs.Landing.{Each, Lands}
-use Rattle.decode.proofs.Sizes.{NotAmong, cleared, elsewhere}
 use Rattle.formulas.specs.Lists.{among}
 use Rattle.quote.specs.Quoting.{Node, node_is, goes_on, node, node_at, steps_at, places_at}
 use Rattle.quote.proofs.Largest.{which}
 
--- ── by the opcode ──
+-- ── an instruction that costs a step and goes on ──
 
--- a function of the instructions, at one of the opcodes
-at_opcode : {A : Type 0} (f : Instr → A) (d : A) (xs : List Instr) (op : ℕ) → op < length xs → get_or (map f xs) op d ≡ f (get_or xs op End)
-at_opcode f d [] op h = absurd (omega arith)
-at_opcode f d (x ∷ xs) zero h = refl
-at_opcode f d (x ∷ xs) (suc op) h = at_opcode f d xs op (omega arith)
+-- it is none of those that do more
+pub record Plain (x : Instr) : Type 0 where
+  pub is_end : x ≡ End → ⊥
+  pub is_jump : (t : ℕ) → x ≡ Jump t → ⊥
+  pub is_ifz : (t : ℕ) → x ≡ Ifz t → ⊥
+  pub is_seal : x ≡ Seal → ⊥
+  pub is_new : x ≡ New → ⊥
+  pub is_block : (t n k : ℕ) → x ≡ Block t n k → ⊥
+  pub is_try : (t : ℕ) → x ≡ Try t → ⊥
+  pub is_throw : x ≡ Throw → ⊥
 
-module _ (code : List ℕ) (i op : ℕ) (k : known op ≡ true) where
-  -- what it is for all opcodes but some, which are cleared, it is for one that is not among these
-  unless : {A : Type 0} (f : Instr → A) (d : A) (ks : List ℕ) → cleared d ks (map f (instrs code i)) ≡ replicate 30 d → NotAmong ks op
-      → d ≡ f (get_or (instrs code i) op End)
-  unfolding known instrs
-  unless {A = A} f d ks e r =
-      sym (blank 30 op d) ∙ ap (λ (xs : List A). get_or xs op d) (sym e) ∙ elsewhere d ks (map f (instrs code i)) op r
-      ∙ at_opcode f d (instrs code i) op (ltb-true op 30 k)
-
-  module _ (j next : ℕ) where
-    abbrev here : Node
-    here = node j next (get_or (instrs code i) op End)
-
-    pub plain_else : NotAmong (28 ∷ 26 ∷ 25 ∷ 22 ∷ 19 ∷ 11 ∷ 10 ∷ 0 ∷ []) op → goes_on next ≡ here
-    unfolding node instrs
-    plain_else r = unless (node j next) (goes_on next) (28 ∷ 26 ∷ 25 ∷ 22 ∷ 19 ∷ 11 ∷ 10 ∷ 0 ∷ []) refl r
+pub plain_on : (i next : ℕ) (x : Instr) → Plain x → node i next x ≡ goes_on next
+unfolding node
+plain_on i next End r = absurd (r.is_end refl)
+plain_on i next (Push t) r = refl
+plain_on i next (Lab t) r = refl
+plain_on i next (Get t) r = refl
+plain_on i next (Set t) r = refl
+plain_on i next Pop r = refl
+plain_on i next Add r = refl
+plain_on i next Sub r = refl
+plain_on i next Less r = refl
+plain_on i next Same r = refl
+plain_on i next (Jump t) r = absurd (r.is_jump t refl)
+plain_on i next (Ifz t) r = absurd (r.is_ifz t refl)
+plain_on i next Cur r = refl
+plain_on i next Clr r = refl
+plain_on i next Raise r = refl
+plain_on i next Lower r = refl
+plain_on i next Flows r = refl
+plain_on i next Join r = refl
+plain_on i next Meet r = refl
+plain_on i next Seal r = absurd (r.is_seal refl)
+plain_on i next Open r = refl
+plain_on i next Labof r = refl
+plain_on i next New r = absurd (r.is_new refl)
+plain_on i next Read r = refl
+plain_on i next Write r = refl
+plain_on i next (Block t n k) r = absurd (r.is_block t n k refl)
+plain_on i next (Try t) r = absurd (r.is_try t refl)
+plain_on i next Done r = refl
+plain_on i next Throw r = absurd (r.is_throw refl)
+plain_on i next (Input t) r = refl
 
 -- ── its costs are small ──
 

@@ -7,8 +7,7 @@ use mathlib.Core.Path.{◌≡◌, sym, ap, ◌∙◌}
 use Prim.Native.Nat.{ℕ, ◌+◌, ◌≤◌, ◌<◌}
 use native.Mathlib.Omega.{arith}
 use lib.Dec.{leb}
-use lib.ListN.{length, set}
-use lib.Seq.{get_or-set_same, get_or-set_other}
+use lib.ListN.{length}
 use borrow.Author.Tests.{leb-true}
 use Rattle.model.specs.Decoding.{byte, known, fetch, after}
 use Rattle.formulas.specs.Lists.{among}
@@ -17,14 +16,13 @@ use Rattle.code_check.proofs.Starts.{from, size_some, from_step, after_step}
 use Rattle.noninterference.proofs.Starts.{all_among, start_ok, lands}
 use Rattle.quote.specs.Paths.{most, largest}
 use Rattle.quote.specs.Quoting.{node_at, successors_at, ahead_at}
-use Rattle.quote.specs.Passes.{at}
 use Rattle.quote.proofs.Largest.{most_same, Forward, unfolded}
 use Rattle.quote.proofs.Nodes.{Onward, node_onward, each_among}
 use Rattle.quote.proofs.Suffixes.{behind, first_in, split, from_within, from_onward, from_later}
 
--- the figures of all starts from a place on are right
-abbrev pub Right : List ℕ → (ℕ → ℕ) → ℕ → List ℕ → Type 0
-Right code cost e fs = (q : ℕ) → among q (from code e) ≡ true → at fs q ≡ largest cost (successors_at code) (length code) q
+-- g gives the largest cost of all starts from a place on
+abbrev pub Right : List ℕ → (ℕ → ℕ) → ℕ → (ℕ → ℕ) → Type 0
+Right code cost e g = (q : ℕ) → among q (from code e) ≡ true → g q ≡ largest cost (successors_at code) (length code) q
 
 module _ (l c : ℕ) (code : List ℕ) (ok : code_ok l c code ≡ true) where
   -- an instruction starts here
@@ -93,18 +91,18 @@ module _ (l c : ℕ) (code : List ℕ) (ok : code_ok l c code ≡ true) where
           by (inr h) = h
 
       -- where the figures of all later starts are right
-      module _ (cost : ℕ → ℕ) (fs : List ℕ) (right : Right code cost (behind code i) fs) where
+      module _ (cost g : ℕ → ℕ) (right : Right code cost (behind code i) g) where
         -- so is that of the start before them
-        pub right_here : cost i + most (at fs) (successors_at code i) ≡ largest cost (successors_at code) (length code) i
+        pub right_here : cost i + most g (successors_at code i) ≡ largest cost (successors_at code) (length code) i
         right_here =
             ap (λ (x : ℕ). cost i + x)
-            (most_same (at fs) (largest cost (successors_at code) (length code)) (successors_at code i) (λ j g. right j (successor_later j g)))
+            (most_same g (largest cost (successors_at code) (length code)) (successors_at code i) (λ j h. right j (successor_later j h)))
             ∙ sym (unfolded cost (successors_at code) (length code) (λ q. among q (from code i) ≡ true) forward (length code) i (first_in code i inside) (omega arith))
 
-        pub right_set : (x : ℕ) → x ≡ largest cost (successors_at code) (length code) i → i < length fs → Right code cost i (set fs i x)
-        right_set x e lt q h = by (split code i q inside h)
+        -- with it, all from there on are
+        pub right_with : (g' : ℕ → ℕ) → g' i ≡ largest cost (successors_at code) (length code) i → ((q : ℕ) → (i ≡ q → ⊥) → g' q ≡ g q) → Right code cost i g'
+        right_with g' here others q h = by (split code i q inside h)
           where
-            by : (q ≡ i) ⊎ (among q (from code (behind code i)) ≡ true) → at (set fs i x) q ≡ largest cost (successors_at code) (length code) q
-            by (inl g) = rw g (get_or-set_same fs i x 0 lt ∙ e)
-            by (inr g) =
-                get_or-set_other fs i q x 0 (λ p. omega (arith, p, (from_within code (behind code i) q g).0, size_some (byte code i))) ∙ right q g
+            by : (q ≡ i) ⊎ (among q (from code (behind code i)) ≡ true) → g' q ≡ largest cost (successors_at code) (length code) q
+            by (inl e) = rw e here
+            by (inr k) = others q (λ p. omega (arith, p, (from_within code (behind code i) q k).0, size_some (byte code i))) ∙ right q k

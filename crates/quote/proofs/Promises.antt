@@ -1,8 +1,8 @@
 -- What a quote promises: its figures are the largest of any path, each reached by one, and no run of that code uses more.
-use mathlib.Core.Bool.{Bool, true, false, true≢false, cond}
+use mathlib.Core.Bool.{Bool, true, false, cond}
 use mathlib.Core.List.{List, []}
 use mathlib.Core.Logic.{◌≢◌, ◌⊎◌, inl, inr}
-use mathlib.Core.Path.{◌≡◌, refl, sym, ap, subst}
+use mathlib.Core.Path.{◌≡◌, refl, sym, ap, ◌∙◌, subst}
 use Prim.Native.Nat.{ℕ, ◌+◌, ◌≤◌, ◌<◌, ◌^◌}
 use native.Mathlib.Omega.{arith}
 use lib.Dec.{eqb}
@@ -21,6 +21,11 @@ use Rattle.formulas.specs.Lists.{among}
 use Rattle.code_check.specs.Sweep.{starts, all}
 use Rattle.code_check.proofs.Starts.{from}
 use Rattle.noninterference.proofs.Starts.{all_among}
+use Rattle.std.specs.Prelude.{Ok, Err}
+use Rattle.file_sections.specs.Refusals.{refusal_number, refusal_of}
+use Rattle.file_sections.specs.declared.Refusal.{Refusal}
+use Rattle.file_sections.specs.declared.Refusal.TheVariants.{Ahead}
+use Rattle.file_sections.proofs.Refusals.{number_of}
 use Rattle.script_file.specs.Sections.{header, code_bytes}
 use Rattle.script_file.specs.Checks.{refusal}
 use Rattle.script_file.specs.Program.{file_inputs, file_program, file_account, file_run, file_account_over, file_program_over, file_run_over}
@@ -29,8 +34,6 @@ use Rattle.quote.specs.Paths.{Path, path_cost, largest}
 use Rattle.quote.specs.Quoting.{Node, node, node_at, steps_at, places_at, successors_at, ahead_at, all_ahead, figures_from, code_quote, quoting}
 use Rattle.quote.specs.Passes.{Checked}
 use Rattle.quote.specs.declared.Figures.{Figures}
-use Rattle.quote.specs.declared.Quote.{Quote}
-use Rattle.quote.specs.declared.Quote.TheVariants.{Refused, Quoted}
 use Rattle.quote.proofs.Largest.{largest_within, Forward, most_above, unfolded, no_path_more, some_path}
 use Rattle.quote.proofs.Nodes.{steps_small, places_small}
 use Rattle.quote.proofs.Suffixes.{first_in}
@@ -129,31 +132,22 @@ module _ (code : List ℕ) (k : Checked code) (a : all_ahead code ≡ true) wher
 
 -- ── a file ──
 
-abbrev is_quoted : Quote → Bool
-is_quoted (Refused n) = false
-is_quoted (Quoted f) = true
-
-abbrev figures_in : Figures → Quote → Figures
-figures_in d (Refused n) = d
-figures_in d (Quoted f) = f
-
-abbrev number_in : Quote → ℕ
-number_in (Refused n) = n
-number_in (Quoted f) = 0
-
 -- A file that gets no quote is refused with a number of checks 1 to 7, or with 11.
-pub refused_with : (bs : List ℕ) (n : ℕ) → quoting bs ≡ Refused n → ((1 ≤ n) × (n ≤ 7)) ⊎ (n ≡ 11)
+pub refused_with : (bs : List ℕ) (r : Refusal) → quoting bs ≡ Err r → ((1 ≤ refusal_number r) × (refusal_number r ≤ 7)) ⊎ (refusal_number r ≡ 11)
 unfolding quoting code_quote
-refused_with bs n q = file (eqb (refusal bs) 0) refl (all_ahead (code_bytes bs)) q
+refused_with bs r q = file (eqb (refusal bs) 0) refl (all_ahead (code_bytes bs)) q
   where
     file : (s : Bool) → eqb (refusal bs) 0 ≡ s → (t : Bool)
-        → cond s (cond t (Quoted (figures_from (code_bytes bs) 0)) (Refused 11)) (Refused (refusal bs)) ≡ Refused n → ((1 ≤ n) × (n ≤ 7)) ⊎ (n ≡ 11)
-    file true e true h = absurd (true≢false (ap is_quoted h))
-    file true e false h = inr (sym (ap number_in h))
+        → cond s (cond t (Ok (figures_from (code_bytes bs) 0)) (Err Ahead)) (Err (refusal_of (refusal bs))) ≡ Err r
+        → ((1 ≤ refusal_number r) × (refusal_number r ≤ 7)) ⊎ (refusal_number r ≡ 11)
+    file true e true h = absurd (cc)
+    file true e false h = let same : r ≡ Ahead = cc in inr (ap refusal_number same)
     file false e t h =
         let some = eqb-false (refusal bs) 0 e in
-        let same = ap number_in h in
-        inl (omega (arith, some, same), omega (arith, same, refusal-most bs))
+        let most = refusal-most bs in
+        let same : r ≡ refusal_of (refusal bs) = cc in
+        let n = ap refusal_number same ∙ number_of (refusal bs) (omega (arith, some)) (omega arith) in
+        inl (omega (arith, some), omega arith)
 
 -- what a file that gets a quote has passed
 pub record Passed (bs : List ℕ) (f : Figures) : Type 0 where
@@ -161,16 +155,16 @@ pub record Passed (bs : List ℕ) (f : Figures) : Type 0 where
   pub ahead : all_ahead (code_bytes bs) ≡ true
   pub figures : figures_from (code_bytes bs) 0 ≡ f
 
-module _ (bs : List ℕ) (f : Figures) (q : quoting bs ≡ Quoted f) where
+module _ (bs : List ℕ) (f : Figures) (q : quoting bs ≡ Ok f) where
   pub passed : Passed bs f
   unfolding quoting code_quote
   passed = file (eqb (refusal bs) 0) refl (all_ahead (code_bytes bs)) refl q
     where
       file : (s : Bool) → eqb (refusal bs) 0 ≡ s → (t : Bool) → all_ahead (code_bytes bs) ≡ t
-          → cond s (cond t (Quoted (figures_from (code_bytes bs) 0)) (Refused 11)) (Refused (refusal bs)) ≡ Quoted f → Passed bs f
-      file true e true g h = record { loads = eqb-true (refusal bs) 0 e; ahead = g; figures = ap (figures_in f) h }
-      file true e false g h = absurd (true≢false (sym (ap is_quoted h)))
-      file false e t g h = absurd (true≢false (sym (ap is_quoted h)))
+          → cond s (cond t (Ok (figures_from (code_bytes bs) 0)) (Err Ahead)) (Err (refusal_of (refusal bs))) ≡ Ok f → Passed bs f
+      file true e true g h = record { loads = eqb-true (refusal bs) 0 e; ahead = g; figures = cc }
+      file true e false g h = absurd (cc)
+      file false e t g h = absurd (cc)
 
   checked : Checked (code_bytes bs)
   checked = checked_file bs passed.loads

@@ -2,14 +2,14 @@
 use mathlib.Core.List.{List}
 use mathlib.Core.Path.{◌≡◌, subst}
 use Prim.Native.Nat.{ℕ}
+use Rattle.std.specs.Prelude.{Ok}
 use Rattle.script_file.specs.Sections.{code_bytes}
 use Rattle.quote.specs.Quoting.{quoting}
 use Rattle.quote.specs.declared.Figures.{Figures}
-use Rattle.quote.specs.declared.Quote.TheVariants.{Quoted}
 use Rattle.quote.proofs.Files.{checked_file}
 use Rattle.quote.proofs.Promises.{LargestOf, passed, figures_largest}
 
-module _ (bs : List ℕ) (f : Figures) (q : quoting bs ≡ Quoted f) where
+module _ (bs : List ℕ) (f : Figures) (q : quoting bs ≡ Ok f) where
   pub quote_largest : LargestOf (code_bytes bs) f
   quote_largest =
       subst (LargestOf (code_bytes bs)) (passed bs f q).figures

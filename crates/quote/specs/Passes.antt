@@ -1,33 +1,36 @@
 -- What the functions of the pass share with each other. No part of the definition.
-use Rattle.std.specs.Prelude.{true, List, [], ◌∷◌, ◌≡◌, ℕ, ◌+◌, ◌≤◌, ◌<◌, ◌^◌, length, get_or, set}
+use Rattle.std.specs.Prelude.{true, List, [], ◌∷◌, ◌≡◌, ℕ, ◌+◌, ◌≤◌, ◌<◌, ◌^◌, length, get_or, set, Option}
+use Rattle.std.specs.Bool.{then_some}
 use Rattle.code_check.specs.Sweep.{code_ok}
 use Rattle.quote.specs.Paths.{most}
 use Rattle.quote.specs.Quoting.{Node}
 use Rattle.quote.specs.declared.Figures.{Figures}
-use Rattle.quote.specs.declared.Weight.{Weight}
 
 -- the list with xs put into it from place n on
 abbrev pub put : ℕ → List ℕ → List ℕ → List ℕ
 put n [] l = l
 put n (x ∷ xs) l = put (n + 1) xs (set l n x)
 
--- the figure that stands at a place
-abbrev pub at : List ℕ → ℕ → ℕ
-at fs i = get_or fs i 0
+-- the figures that stand at a place
+abbrev pub at : List Figures → ℕ → Figures
+at fs i = get_or fs i (record { steps = 0; places = 0 })
+
+abbrev pub steps_in : List Figures → ℕ → ℕ
+steps_in fs i = (at fs i).steps
+
+abbrev pub places_in : List Figures → ℕ → ℕ
+places_in fs i = (at fs i).places
 
 -- no sum of one of them and what an instruction costs wraps
-pub record Small (fs : List ℕ) : Type 0 where
-  pub below : (i : ℕ) → at fs i < 2 ^ 29
+pub record Small (fs : List Figures) : Type 0 where
+  pub steps : (i : ℕ) → steps_in fs i < 2 ^ 29
+  pub places : (i : ℕ) → places_in fs i < 2 ^ 29
 
--- the figures at place i are these
-pub record Behind (next : Figures) (steps places : List ℕ) (i : ℕ) : Type 0 where
-  pub same_steps : at steps i ≡ next.steps
-  pub same_places : at places i ≡ next.places
-
--- what an instruction costs, with the largest of its successors
-abbrev pub weight_from : (ℕ → ℕ) → (ℕ → ℕ) → Node → Weight
-weight_from steps places x =
-    record { ahead = x.ahead; steps = x.steps + most steps x.successors; places = x.places + most places x.successors }
+-- what an instruction costs, with the largest of its successors; none where check 11 applies to it
+abbrev pub weight_from : List Figures → Node → Option Figures
+weight_from fs x =
+    then_some x.ahead
+    (record { steps = x.steps + most (steps_in fs) x.successors; places = x.places + most (places_in fs) x.successors })
 
 -- code that has passed check 7
 pub record Checked (code : List ℕ) : Type 0 where

@@ -1,16 +1,17 @@
 -- T-04: what a plain file's code may cost, before it is run. "a path stops at END or THROW, SEAL and NEW always cost a place,
 -- and BLOCK costs 1 + n steps and k + 1 places, its body not followed".
-use Rattle.std.specs.Prelude.{Bool, true, false, cond, List, [], ◌∷◌, ℕ, ◌+◌, ltb, eqb, length}
+use Rattle.std.specs.Prelude.{Bool, true, false, cond, List, [], ◌∷◌, ℕ, ◌+◌, ltb, eqb, length, Result, Ok, Err}
 use Rattle.model.specs.Decoding.{fetch, after}
 use Rattle.model.specs.declared.Instr.{Instr}
 use Rattle.model.specs.declared.Instr.TheVariants.{End, Push, Lab, Get, Set, Pop, Add, Sub, Less, Same, Jump, Ifz, Cur, Clr, Raise, Lower, Flows, Join, Meet, Seal, Open, Labof, New, Read, Write, Block, Try, Done, Throw, Input}
 use Rattle.code_check.specs.Sweep.{starts, all}
+use Rattle.file_sections.specs.Refusals.{refusal_of}
+use Rattle.file_sections.specs.declared.Refusal.{Refusal}
+use Rattle.file_sections.specs.declared.Refusal.TheVariants.{Ahead}
 use Rattle.script_file.specs.Sections.{code_bytes}
 use Rattle.script_file.specs.Checks.{refusal}
 use Rattle.quote.specs.Paths.{largest}
 use Rattle.quote.specs.declared.Figures.{Figures}
-use Rattle.quote.specs.declared.Quote.{Quote}
-use Rattle.quote.specs.declared.Quote.TheVariants.{Refused, Quoted}
 
 -- an instruction on a path
 pub record Node : Type 0 where
@@ -91,9 +92,9 @@ abbrev pub figures_from : List ℕ → ℕ → Figures
 figures_from code i =
     record { steps = largest (steps_at code) (successors_at code) (length code) i; places = largest (places_at code) (successors_at code) (length code) i }
 
-unfoldable pub code_quote : List ℕ → Quote
-code_quote code = cond (all_ahead code) (Quoted (figures_from code 0)) (Refused 11)
+unfoldable pub code_quote : List ℕ → Result Figures Refusal
+code_quote code = cond (all_ahead code) (Ok (figures_from code 0)) (Err Ahead)
 
--- "Checks: 11, after 7"; "8 and 9 fall away". `Quote` is declared in src/lib.rt: refused with a number, or the two figures.
-unfoldable pub quoting : List ℕ → Quote
-quoting bs = cond (eqb (refusal bs) 0) (code_quote (code_bytes bs)) (Refused (refusal bs))
+-- "Checks: 11, after 7"; "8 and 9 fall away". A file is refused by the first check that stops it, or gets the two figures.
+unfoldable pub quoting : List ℕ → Result Figures Refusal
+quoting bs = cond (eqb (refusal bs) 0) (code_quote (code_bytes bs)) (Err (refusal_of (refusal bs)))

@@ -2,16 +2,15 @@
 // through the code.
 #![tactic(auto)]
 
-ghost use Rattle.std.specs.Prelude.{◌≡◌, true, ◌+◌, ◌≤◌, ◌<◌, ◌^◌, max, length, get_or};
-ghost use Rattle.model.specs.declared.Instr.TheVariants.{End};
-ghost use Rattle.model.specs.Decoding.{known, instrs, after};
+ghost use Rattle.std.specs.Prelude.{◌≡◌, ◌+◌, ◌≤◌, ◌<◌, ◌^◌, max, length};
+ghost use Rattle.model.specs.Decoding.{after};
 ghost use Rattle.code_check.specs.Sweep.{starts};
-ghost use Rattle.script_file.specs.Sections.{header};
-ghost use Rattle.script_file.specs.Checks.{refusal};
-ghost use Rattle.quote.specs.Quoting.{node, code_quote, quoting};
-ghost use Rattle.quote.specs.Passes.{put, at, Small, Behind, weight_from, Checked};
+ghost use Rattle.quote.specs.Quoting.{node_at, code_quote, quoting};
+ghost use Rattle.quote.specs.Passes.{put, at, Small, weight_from, Checked};
 
-use script_file::{Header, Loaded};
+use code_check::CODE;
+use file_sections::Refusal;
+use model::Instr;
 
 // The largest steps and the largest places, each by itself.
 #[derive(Clone, Copy)]
@@ -20,94 +19,68 @@ pub struct Figures {
     pub places: u32,
 }
 
-// What asking for a quote comes to.
-#[derive(Clone, Copy)]
-pub enum Quote {
-    // The number of the check that stops it, 1 to 7 or 11.
-    Refused(u64),
-    Quoted(Figures),
-}
-
-// No code is longer.
-const CODE: usize = 4096;
+const NOTHING: Figures = Figures {
+    steps: 0,
+    places: 0,
+};
 
 // ---- one instruction
 
-fn larger(a: u32, b: u32) -> u32
-    ensures { result ≡ max a b }
+// The larger of each.
+fn larger(a: Figures, b: Figures) -> Figures
+    ensures steps { result.steps ≡ max a.steps b.steps }
+    ensures places { result.places ≡ max a.places b.places }
 {
-    if a < b {
-        return b;
+    Figures {
+        steps: a.steps.max(b.steps),
+        places: a.places.max(b.places),
     }
-    a
 }
 
-// Behind the last stands 0.
-fn found(figures: &[u32], i: usize) -> u32
+// What an instruction costs by itself, and what may follow it.
+fn charged(steps: u32, places: u32, onward: Figures) -> Figures
+    requires small_steps { steps + onward.steps < 2 ^ 32 }
+    requires small_places { places + onward.places < 2 ^ 32 }
+    ensures { result ≡ record { steps = steps + onward.steps; places = places + onward.places } }
+{
+    Figures {
+        steps: steps + onward.steps,
+        places: places + onward.places,
+    }
+}
+
+// The figures at a place. Behind the last stands nothing.
+fn found(figures: &[Figures; CODE], i: usize) -> Figures
     ensures { result ≡ at figures.now i }
 {
-    if i < figures.len() {
-        return figures[i];
-    }
-    0
+    figures.get(i).copied().unwrap_or(NOTHING)
 }
 
-// What an instruction weighs, with what may follow it.
-#[derive(Clone, Copy)]
-struct Weight {
-    // Check 11 does not apply to it: it is no TRY, and its target is ahead.
-    ahead: bool,
-    steps: u32,
-    places: u32,
-}
-
-fn weighed(ahead: bool, steps: u32, places: u32) -> Weight
-    ensures { result ≡ record { ahead = ahead; steps = steps; places = places } }
+// Weighs the instruction at `i` by the figures of the one behind it, `next`, and those that stand at later places. There are
+// none where check 11 applies to it: it is a TRY, or its target is not ahead.
+fn weigh(code: &[u8], i: usize, next: Figures, figures: &[Figures; CODE]) -> Option<Figures>
+    requires short { length code.now ≤ 4096 }
+    requires behind { next ≡ at figures.now (after code.now i) }
+    requires small { Small figures.now }
+    ensures { result ≡ weight_from figures.now (node_at code.now i) }
 {
-    Weight {
-        ahead,
-        steps,
-        places,
-    }
-}
-
-// Weighs the instruction with opcode `op` at `i`, by the figures of the instruction behind it, `next`, and those that stand
-// at the later places.
-fn weigh(code: &[u8], op: u8, i: usize, next: Figures, steps: &[u32], places: &[u32]) -> Weight
-    requires { (i < 2 ^ 16) × (known op ≡ true) × Behind next steps.now places.now (after code.now i) × Small steps.now × Small places.now }
-    ensures { result ≡ weight_from (at steps.now) (at places.now) (node i (after code.now i) (get_or (instrs code.now (i + 1)) op End)) }
-{
-    let operands = i + 1;
-    match op {
-        0x00 => weighed(true, 1, 0),
-        0x0A => {
-            let target = decode::target_at(code, operands);
-            weighed(i < target, 1 + found(steps, target), found(places, target))
-        }
-        0x0B => {
-            let target = decode::target_at(code, operands);
-            let most_steps = larger(found(steps, target), next.steps);
-            let most_places = larger(found(places, target), next.places);
-            weighed(i < target, 1 + most_steps, most_places)
-        }
-        0x13 => weighed(true, 1 + next.steps, 1 + next.places),
-        0x16 => weighed(true, 1 + next.steps, 1 + next.places),
-        0x19 => weighed(
-            i < decode::target_at(code, operands),
-            1 + decode::u16_at(code, operands + 2) as u32 + next.steps,
-            decode::byte_at(code, operands + 4) as u32 + 1 + next.places,
-        ),
-        0x1A => weighed(false, 1 + next.steps, next.places),
-        0x1C => weighed(true, 1, 0),
-        _ => weighed(true, 1 + next.steps, next.places),
+    match decode::decode(code, i).instr {
+        Instr::End | Instr::Throw => Some(charged(1, 0, NOTHING)),
+        Instr::Jump(t) => (i < t).then_some(charged(1, 0, found(figures, t))),
+        Instr::Ifz(t) => (i < t).then_some(charged(1, 0, larger(found(figures, t), next))),
+        Instr::Seal | Instr::New => Some(charged(1, 1, next)),
+        Instr::Block(t, n, k) => (i < t).then_some(charged(1 + n as u32, k as u32 + 1, next)),
+        Instr::Try(_) => None,
+        _ => Some(charged(1, 0, next)),
     }
 }
 
 // ---- the code
 
-// Lists the places where instructions start, in their order, and gives how many there are.
-fn list_starts(code: &[u8], list: &mut [u16]) -> usize
-    requires { (length code.now ≤ length list.old) × (length code.now ≤ 4096) }
+// Lists the places where instructions start, in their order, and gives how many there are: an array and a count, as there is no
+// heap. By a `while`, since each step is as long as an instruction.
+fn list_starts(code: &[u8], list: &mut [u16; CODE]) -> usize
+    requires { length code.now ≤ 4096 }
     ensures { (result ≡ length (starts code.now)) × (list.new ≡ put 0 (starts code.now) list.old) }
 {
     let mut n: usize = 0;
@@ -121,55 +94,30 @@ fn list_starts(code: &[u8], list: &mut [u16]) -> usize
 }
 
 // Check 11 and the figures of code that has passed check 7, by one pass from the last instruction to the first.
-fn quote_code(code: &[u8]) -> Quote
+fn quote_code(code: &[u8]) -> Result<Figures, Refusal>
     requires { Checked code.now }
     ensures { result ≡ code_quote code.now }
 {
     let mut list = [0u16; CODE];
-    let mut steps = [0u32; CODE];
-    let mut places = [0u32; CODE];
-    let mut next = Figures {
-        steps: 0,
-        places: 0,
-    };
-    let mut left = list_starts(code, &mut list);
-    while 0 < left {
-        left -= 1;
-        let i = list[left] as usize;
-        let here = weigh(code, code[i], i, next, &steps, &places);
-        if !here.ahead {
-            return Quote::Refused(11);
-        }
-        next = Figures {
-            steps: here.steps,
-            places: here.places,
-        };
-        steps[i] = here.steps;
-        places[i] = here.places;
+    let n = list_starts(code, &mut list);
+    let mut figures = [NOTHING; CODE];
+    // Handed on: read back from the array, it waits for its store (1.29 times the time of a quote).
+    let mut next = NOTHING;
+    for &start in list[..n].iter().rev() {
+        let i = usize::from(start);
+        next = weigh(code, i, next, &figures).ok_or(Refusal::Ahead)?;
+        figures[i] = next;
     }
-    Quote::Quoted(next)
+    Ok(next)
 }
 
 // ---- the file
 
-// The quote of a file that loads.
-fn quote_loaded(file: &[u8], h: Header) -> Quote
-    requires { (refusal file.now ≡ 0) × (h ≡ header file.now) }
+// The quote of a file of any bytes: the refusal of check 1 to 7 or 11 that stops it, or its figures.
+pub fn quote_file(file: &[u8]) -> Result<Figures, Refusal>
     ensures { result ≡ quoting file.now }
 {
-    let code = h.code;
-    let at = code.offset;
-    quote_code(&file[at..])
-}
-
-// The quote of a file of any bytes.
-pub fn quote_file(file: &[u8]) -> Quote
-    ensures { result ≡ quoting file.now }
-{
-    let mut labels = [0u64; file_sections::WORDS];
-    let loaded = script_file::load(file, &mut labels);
-    match loaded {
-        Loaded::Refused(why) => Quote::Refused(script_file::number(why)),
-        Loaded::File(h) => quote_loaded(file, h),
-    }
+    let mut labels = file_sections::no_labels();
+    let header = script_file::load(file, &mut labels)?;
+    quote_code(&file[header.code.offset..])
 }

@@ -1,20 +1,21 @@
 // The printed quote of a file, written into a buffer that the caller lends.
 #![tactic(auto)]
 
-ghost use Rattle.std.specs.Prelude.{◌≡◌, ◌≤◌, ◌<◌, ◌^◌, length};
+ghost use Rattle.std.specs.Prelude.{◌≡◌, ◌≤◌, length};
 ghost use Rattle.view_fields.specs.Writing.{over};
 ghost use Rattle.lines.specs.Lines.{decimal};
 ghost use Rattle.quote_lines.specs.Lines.{figures_line, quote_printed};
 
-use quote::{Figures, Quote};
+use quote::Figures;
 
 // The longest line: two numbers of ten digits, and 15 bytes around them.
 pub const ROOM: usize = 35;
 
-// Writes a number in decimal, and gives how many digits it has.
+// Writes a number in decimal, and gives how many digits it has: by the definition's own recursion, a tenth of it first.
 fn write_decimal(n: u32, out: &mut [u8]) -> usize
     requires { length (decimal n) ≤ length out.old }
-    ensures { (result ≡ length (decimal n)) × (out.new ≡ over (decimal n) out.old) }
+    ensures count { result ≡ length (decimal n) }
+    ensures written { out.new ≡ over (decimal n) out.old }
 {
     if n < 10 {
         out[0] = b'0' + n as u8;
@@ -27,14 +28,13 @@ fn write_decimal(n: u32, out: &mut [u8]) -> usize
 
 // Writes the line of two figures, and gives how many bytes that is.
 fn write_figures(f: Figures, out: &mut [u8]) -> usize
-    requires { (f.steps < 2 ^ 32) × (f.places < 2 ^ 32) × (35 ≤ length out.old) }
-    ensures { (result ≡ length (figures_line f)) × (out.new ≡ over (figures_line f) out.old) }
+    requires { 35 ≤ length out.old }
+    ensures count { result ≡ length (figures_line f) }
+    ensures written { out.new ≡ over (figures_line f) out.old }
 {
-    let steps = [b's', b't', b'e', b'p', b's', b' '];
-    let places = [b' ', b'p', b'l', b'a', b'c', b'e', b's', b' '];
-    lines::write_bytes(&steps, out);
+    lines::write_bytes(b"steps ", out);
     let middle = 6 + write_decimal(f.steps, &mut out[6..]);
-    lines::write_bytes(&places, &mut out[middle..]);
+    lines::write_bytes(b" places ", &mut out[middle..]);
     let last = middle + 8;
     let end = last + write_decimal(f.places, &mut out[last..]);
     out[end] = b'\n';
@@ -44,10 +44,11 @@ fn write_figures(f: Figures, out: &mut [u8]) -> usize
 // Writes what is printed of a file's quote, and gives how many bytes that is.
 pub fn write_quote(file: &[u8], out: &mut [u8]) -> usize
     requires { 35 ≤ length out.old }
-    ensures { (result ≡ length (quote_printed file.now)) × (out.new ≡ over (quote_printed file.now) out.old) }
+    ensures count { result ≡ length (quote_printed file.now) }
+    ensures written { out.new ≡ over (quote_printed file.now) out.old }
 {
     match quote::quote_file(file) {
-        Quote::Refused(n) => lines::write_refused(n as u8, out),
-        Quote::Quoted(f) => write_figures(f, out),
+        Ok(f) => write_figures(f, out),
+        Err(refusal) => lines::write_refusal(refusal, out),
     }
 }

@@ -5,8 +5,7 @@ use quote_lines::ROOM;
 use std::io;
 
 // Prints the quote of a file.
+#[tactic(auto, using(view_fields::proofs::Buffers::written_within))]
 pub fn print_quote(rt: &impl Print, file: &[u8]) -> io::Result<()> {
-    let mut out = [0u8; ROOM];
-    let n = quote_lines::write_quote(file, &mut out);
-    rt.write_all(&out[..n])
+    streams::print_written::<ROOM, _>(rt, |out| quote_lines::write_quote(file, out))
 }

@@ -1,4 +1,6 @@
 -- What a request does, under mapped labels: the same checks, the same effect. Proved once for each request.
+use Rattle.std.specs.Prelude.{None, Some}
+use Rattle.std.proofs.lemmas.List.{map-set, drop-map}
 use mathlib.Core.Bool.{Bool}
 use mathlib.Core.List.{List, [], ◌∷◌, map}
 use mathlib.Core.Path.{◌≡◌, refl}
@@ -6,7 +8,7 @@ use Prim.Native.Nat.{ℕ, ◌+◌, ◌-◌}
 use lib.Dec.{leb, ltb}
 use lib.ListN.{length, set, length-map, get_or-map}
 use Rattle.labels.specs.declared.Label.{Label}
-use Rattle.model.specs.State.{Control, Store, Program, flows_in, Outcome, Runner, at, push, with_steps, with_next}
+use Rattle.model.specs.State.{Control, Store, Program, flows_in, Outcome, Runner, at, push, with_steps, with_next, Slot}
 use Rattle.model.specs.declared.Account.{Account}
 use Rattle.model.specs.Operands.{Request, none, ends, throws, raises, lowers, labels, opens, makes, writes, blocks}
 use Rattle.model.specs.Effects.{Next, go, stop, cut, fail_to, fail, check, check_flow, check_between, check_raise, raised, holding, yield, open_slot, label_slot, write_slot, body_control, body_account, contents_of, outcome, seal_outcome, act}
@@ -16,14 +18,12 @@ use Rattle.model.specs.declared.Datum.TheVariants.{Handle}
 use Rattle.model.specs.declared.Value.{Value}
 use Rattle.model.specs.declared.Contents.{Contents}
 use Rattle.model.specs.declared.Contents.TheVariants.{Value as Holds, Fault}
-use Rattle.model.specs.declared.Slot.{Slot}
-use Rattle.model.specs.declared.Slot.TheVariants.{Empty, Full}
 use Rattle.model.specs.declared.Frame.{Frame}
 use Rattle.model.specs.declared.Ending.{Ending}
 use Rattle.model.specs.declared.Ending.TheVariants.{Result, Fault as Faulted, Spent}
 use Rattle.relabelling.specs.Relabelled.{datum_under, value_under, contents_under, slot_under, store_under, frame_under, control_under, account_under, ending_under, outcome_under}
 use Rattle.relabelling.specs.Keeps.{Keeps}
-use Rattle.relabelling.proofs.Lists.{cond_under, map_set, map_drop}
+use Rattle.relabelling.proofs.Lists.{cond_under}
 use Rattle.relabelling.proofs.Plans.{request_under, flows_under, half_under, join_under}
 
 module _ (h : Label → Label) where
@@ -38,15 +38,15 @@ module _ (h : Label → Label) where
   -- ── faults, stack and store ──
 
   cut_under : (n : ℕ) (s : List Value) → cut n (map (value_under h) s) ≡ map (value_under h) (cut n s)
-  cut_under n s = rw (length-map s (value_under h)) (map_drop (value_under h) (length s - n) s)
+  cut_under n s = rw (length-map s (value_under h)) (drop-map (value_under h) (length s - n) s)
 
   at_under : (σ : Store) (p : ℕ) → at (store_under h σ) p ≡ slot_under h (at σ p)
-  at_under σ p = get_or-map (slot_under h) σ p Empty
+  at_under σ p = get_or-map (slot_under h) σ p None
 
   -- the run goes on with a place set
   set_under : (c : Control) (a : Account) (σ : Store) (p : ℕ) (x : Slot)
       → go (control_under h c) (account_under h a) (set (store_under h σ) p (slot_under h x)) ≡ next_under (go c a (set σ p x))
-  set_under c a σ p x = rw (map_set (slot_under h) σ p x)
+  set_under c a σ p x = rw (map-set (slot_under h) σ p x)
 
   contents_of_under : (e : Ending) → contents_of (ending_under h e) ≡ contents_under h (contents_of e)
   unfolding contents_of
@@ -78,8 +78,8 @@ module _ (h : Label → Label) where
     label_slot_under : (r : Control) (x : Slot)
         → label_slot (control_under h c) (control_under h r) (account_under h a) (store_under h σ) (slot_under h x) ≡ next_under (label_slot c r a σ x)
     unfolding label_slot
-    label_slot_under r Empty = fail_under 33 0
-    label_slot_under r (Full x) = refl
+    label_slot_under r None = fail_under 33 0
+    label_slot_under r (Some x) = refl
 
   -- ── the checks of labels, and the requests ──
 
@@ -110,16 +110,16 @@ module _ (h : Label → Label) where
       open_under : (r : Control) (x : Slot)
           → open_slot Q (control_under h c) (control_under h r) (account_under h a) (store_under h σ) (slot_under h x) ≡ next_under (open_slot P c r a σ x)
       unfolding open_slot
-      open_under r Empty = fail_under c a σ 33 0
-      open_under r (Full x) =
+      open_under r None = fail_under c a σ 33 0
+      open_under r (Some x) =
           raise_under x.label _ _ (rw (raised_under x.label a) (yield_under c (raised P x.label a) σ r x.contents))
 
       write_under : (r : Control) (p : ℕ) (d : Datum) (x : Slot)
           → write_slot Q (control_under h c) (control_under h r) (account_under h a) (store_under h σ) p (datum_under h d) (slot_under h x)
           ≡ next_under (write_slot P c r a σ p d x)
       unfolding write_slot
-      write_under r p d Empty = fail_under c a σ 33 0
-      write_under r p d (Full x) = between_under 23 24 x.label _ _ (set_under r a σ p (holding x.kind x.label (Holds d)))
+      write_under r p d None = fail_under c a σ 33 0
+      write_under r p d (Some x) = between_under 23 24 x.label _ _ (set_under r a σ p (holding x.kind x.label (Holds d)))
 
       seal_under : (r : Control) (b : Label) (n k : ℕ) (o : Outcome)
           → seal_outcome Q (control_under h r) (account_under h a) (h b) n k (outcome_under h o) ≡ next_under (seal_outcome P r a b n k o)

@@ -1,4 +1,5 @@
 -- What an instruction makes of its operands, under mapped labels: the same fault, or the same request mapped.
+use Rattle.std.proofs.lemmas.List.{map-set}
 use mathlib.Core.Bool.{Bool, true, false}
 use mathlib.Core.List.{List, [], ◌∷◌, map}
 use mathlib.Core.Path.{◌≡◌, refl, ap, ◌∙◌}
@@ -19,7 +20,7 @@ use Rattle.model.specs.declared.Instr.{Instr}
 use Rattle.model.specs.declared.Instr.TheVariants.{End, Push, Lab, Get, Set, Pop, Add, Sub, Less, Same, Jump, Ifz, Cur, Clr, Raise, Lower, Flows, Join, Meet, Seal, Open, Labof, New, Read, Write, Block, Try, Done, Throw, Input}
 use Rattle.relabelling.specs.Relabelled.{datum_under, value_under, frame_under, control_under, account_under}
 use Rattle.relabelling.specs.Keeps.{Keeps}
-use Rattle.relabelling.proofs.Lists.{same_zero, cond_under, map_set}
+use Rattle.relabelling.proofs.Lists.{same_zero, cond_under}
 
 module _ (h : Label → Label) where
   abbrev pub request_under : Request → Request
@@ -54,34 +55,27 @@ module _ (h : Label → Label) where
   number_under : (d : Datum) (k j : ℕ → Plan) → ((n : ℕ) → k n ≡ plan_under (j n)) → as_number (datum_under h d) k ≡ plan_under (as_number d j)
   unfolding as_number
   number_under (Number n) k j e = e n
-  number_under (Labelled l) k j e = refl
-  number_under (Handle x p) k j e = refl
+  number_under d k j e = refl
 
   label_under : (d : Datum) (k j : Label → Plan) → ((l : Label) → k (h l) ≡ plan_under (j l)) → as_label (datum_under h d) k ≡ plan_under (as_label d j)
   unfolding as_label
-  label_under (Number n) k j e = refl
   label_under (Labelled l) k j e = e l
-  label_under (Handle x p) k j e = refl
+  label_under d k j e = refl
 
   handle_under : (d : Datum) (k j : ℕ → Plan) → ((p : ℕ) → k p ≡ plan_under (j p)) → as_handle (datum_under h d) k ≡ plan_under (as_handle d j)
   unfolding as_handle
-  handle_under (Number n) k j e = refl
-  handle_under (Labelled l) k j e = refl
   handle_under (Handle x p) k j e = e p
+  handle_under d k j e = refl
 
   sealed_under : (d : Datum) (k j : ℕ → Plan) → ((p : ℕ) → k p ≡ plan_under (j p)) → as_sealed (datum_under h d) k ≡ plan_under (as_sealed d j)
   unfolding as_sealed
-  sealed_under (Number n) k j e = refl
-  sealed_under (Labelled l) k j e = refl
   sealed_under (Handle Sealed p) k j e = e p
-  sealed_under (Handle Reference p) k j e = refl
+  sealed_under d k j e = refl
 
   reference_under : (d : Datum) (k j : ℕ → Plan) → ((p : ℕ) → k p ≡ plan_under (j p)) → as_reference (datum_under h d) k ≡ plan_under (as_reference d j)
   unfolding as_reference
-  reference_under (Number n) k j e = refl
-  reference_under (Labelled l) k j e = refl
-  reference_under (Handle Sealed p) k j e = refl
   reference_under (Handle Reference p) k j e = e p
+  reference_under d k j e = refl
 
   pop_number_under : (c : Control) (k j : ℕ → Control → Plan) → ((n : ℕ) (r : Control) → k n (control_under h r) ≡ plan_under (j n r))
       → pop_number (control_under h c) k ≡ plan_under (pop_number c j)
@@ -142,7 +136,7 @@ module _ (h : Label → Label) where
     operate_under c (Push n) = refl
     operate_under c (Lab i) = pushes_under c (Labelled (P.labels i)) (ap Labelled (K.mapped_labels i))
     operate_under c (Get i) = pushes_under c (get_or c.locals i (number 0)).datum (value-under c.locals i)
-    operate_under c (Set i) = pop_under c _ _ (λ d r. rw (map_set (value_under h) r.locals i (value d)))
+    operate_under c (Set i) = pop_under c _ _ (λ d r. rw (map-set (value_under h) r.locals i (value d)))
     operate_under c Pop = pop_under c _ _ (λ d r. refl)
     operate_under c Add = two_numbers_under c _ (λ x y. refl)
     operate_under c Sub = two_numbers_under c _ (λ x y. refl)

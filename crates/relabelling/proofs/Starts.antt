@@ -1,4 +1,5 @@
 -- From a file's input records on: what a run starts with under mapped labels, and the theorem for such a run.
+use Rattle.std.specs.Prelude.{None, Some}
 use mathlib.Core.Bool.{Bool}
 use mathlib.Core.List.{List, [], ◌∷◌, map, map-append}
 use mathlib.Core.Path.{◌≡◌, refl, ap}
@@ -6,13 +7,11 @@ use Prim.Native.Nat.{ℕ, zero, suc, ◌+◌, ◌-◌}
 use lib.ListN.{length, replicate, length-map}
 use Rattle.labels.specs.Order.{flow_test, join, meet}
 use Rattle.labels.specs.declared.Label.{Label}
-use Rattle.model.specs.State.{Store, value, shown}
+use Rattle.model.specs.State.{Store, value, shown, Slot}
 use Rattle.model.specs.Inputs.{Input, input_from, inputs, handles, record_of, input_slots}
 use Rattle.model.specs.Running.{runs, program_of, start_control, start_account, start_store}
 use Rattle.model.specs.declared.Datum.TheVariants.{Handle}
 use Rattle.model.specs.declared.Value.{Value}
-use Rattle.model.specs.declared.Slot.{Slot}
-use Rattle.model.specs.declared.Slot.TheVariants.{Empty, Full}
 use Rattle.relabelling.specs.Relabelled.{value_under, slot_under, store_under, outcome_under, input_under}
 use Rattle.relabelling.specs.Keeps.{Order, KeepsOrder, Keeps, program_in}
 use Rattle.relabelling.proofs.Lists.{cond_under, map_replicate}
@@ -43,21 +42,21 @@ module _ (h : Label → Label) where
   pub slots_under : (xs : List Input) → input_slots (map (input_under h) xs) ≡ store_under h (input_slots xs)
   unfolding input_slots
   slots_under [] = refl
-  slots_under (x ∷ xs) = ap (λ (σ : Store). slot_under h (Full (record_of x)) ∷ σ) (slots_under xs)
+  slots_under (x ∷ xs) = ap (λ (σ : Store). slot_under h (Some (record_of x)) ∷ σ) (slots_under xs)
 
   -- the empty places stay empty
   pub store-under : (σ : Store) → start_store (store_under h σ) ≡ store_under h (start_store σ)
   unfolding start_store
   store-under σ =
       let n = 256 - length σ in
-      rw (length-map σ (slot_under h), map-append (slot_under h) σ (replicate n Empty), ← map_replicate (slot_under h) n Empty)
+      rw (length-map σ (slot_under h), map-append (slot_under h) σ (replicate n None), ← map_replicate (slot_under h) n None)
 
   -- an observer who sees h l if and only if another sees l is shown the same places
   pub shown_under : (Sees Seen : Label → Bool) → ((l : Label) → Seen (h l) ≡ Sees l) → (x : Slot)
       → shown Seen (slot_under h x) ≡ slot_under h (shown Sees x)
   unfolding shown
-  shown_under Sees Seen e Empty = refl
-  shown_under Sees Seen e (Full r) = rw (e r.label) (cond_under (slot_under h) (Sees r.label) refl refl)
+  shown_under Sees Seen e None = refl
+  shown_under Sees Seen e (Some r) = rw (e r.label) (cond_under (slot_under h) (Sees r.label) refl refl)
 
   -- ── a run from its start ──
 

@@ -1,7 +1,7 @@
 -- What a map h of labels makes of each part of a run: every label l in it becomes h l, and nothing else changes.
-use Rattle.std.specs.Prelude.{map}
+use Rattle.std.specs.Prelude.{map, option_map}
 use Rattle.labels.specs.declared.Label.{Label}
-use Rattle.model.specs.State.{Control, Store, Outcome, value}
+use Rattle.model.specs.State.{Control, Store, Outcome, value, Slot}
 use Rattle.model.specs.Inputs.{Input}
 use Rattle.model.specs.declared.Datum.{Datum}
 use Rattle.model.specs.declared.Datum.TheVariants.{Number, Label as Labelled, Handle}
@@ -9,8 +9,6 @@ use Rattle.model.specs.declared.Value.{Value}
 use Rattle.model.specs.declared.Contents.{Contents}
 use Rattle.model.specs.declared.Contents.TheVariants.{Value as Holds, Fault}
 use Rattle.model.specs.declared.Record.{Record}
-use Rattle.model.specs.declared.Slot.{Slot}
-use Rattle.model.specs.declared.Slot.TheVariants.{Empty, Full}
 use Rattle.model.specs.declared.Frame.{Frame}
 use Rattle.model.specs.declared.Account.{Account}
 use Rattle.model.specs.declared.Ending.{Ending}
@@ -38,8 +36,7 @@ module _ (h : Label → Label) where
 
   -- an empty place stays empty
   abbrev pub slot_under : Slot → Slot
-  slot_under Empty = Empty
-  slot_under (Full x) = Full (record_under x)
+  slot_under = option_map record_under
 
   -- each record in its place
   abbrev pub store_under : Store → Store

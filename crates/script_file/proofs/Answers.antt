@@ -1,63 +1,25 @@
 -- The answer and its number.
 use mathlib.Core.Bool.{Bool, true, false}
 use mathlib.Core.List.{List, [], ◌∷◌}
-use mathlib.Core.Path.{◌≡◌, refl, ap, sym, ◌∙◌}
+use mathlib.Core.Path.{◌≡◌}
 use Prim.Native.Nat.{ℕ, suc, ◌≤◌}
 use native.Mathlib.Omega.{arith}
 use lib.Dec.{eqb-suc-zero}
-use lib.ListN.{length, get_or}
+use lib.ListN.{length}
 use Rattle.script_file.specs.Sections.{header, file_labels}
-use Rattle.script_file.specs.Checks.{passes1, passes2, passes3, passes4, passes5, passes6, passes7, lowest, refusal, refusal_over}
-use Rattle.script_file.specs.Loading.{refusal_number, refusals, answer, loaded, words_after}
+use Rattle.script_file.specs.Checks.{passes1, passes2, passes3, passes4, passes5, passes6, passes7, refusal, refusal_over}
+use Rattle.script_file.specs.Loading.{loaded, labels_after}
+use Rattle.script_file.specs.Parts.{Loads}
 use Rattle.script_file.specs.declared.Header.{Header}
-use Rattle.script_file.specs.declared.Refusal.{Refusal}
-use Rattle.script_file.specs.declared.Refusal.TheVariants.{Size, Counts, Offsets, Labels, Start, Records, Code}
-use Rattle.script_file.specs.declared.Loaded.{Loaded}
-use Rattle.script_file.specs.declared.Loaded.TheVariants.{Refused, File}
 use Rattle.script_file.proofs.Tests.{lowest_each, lowest_most}
 use Rattle.script_file.proofs.Limits.{Counted, counted, Placed, placed}
 use Rattle.file_sections.specs.Sections.{or_none}
-use Rattle.file_sections.specs.Words.{label_words}
-
--- the number of an answer, 0 where nothing stops the file
-abbrev number_of : Loaded → ℕ
-number_of (Refused r) = refusal_number r
-number_of (File h) = 0
-
--- The answer's number is the lowest that applies.
-answer-number : (bs : List ℕ) → number_of (loaded bs) ≡ refusal bs
-unfolding refusal_number loaded refusal_over
-answer-number bs = each (passes1 bs) (passes2 bs) (passes3 bs) (passes4 bs) (passes5 bs) (passes6 bs) (passes7 bs) where
-  each : (a b c d e f g : Bool) → number_of (answer (lowest 1 (a ∷ b ∷ c ∷ d ∷ e ∷ f ∷ g ∷ [])) (header bs)) ≡ lowest 1 (a ∷ b ∷ c ∷ d ∷ e ∷ f ∷ g ∷ [])
-  each false b c d e f g = refl
-  each true false c d e f g = refl
-  each true true false d e f g = refl
-  each true true true false e f g = refl
-  each true true true true false f g = refl
-  each true true true true true false g = refl
-  each true true true true true true false = refl
-  each true true true true true true true = refl
-
--- a refusal's number is one of 1 to 7
-pub number-within : (r : Refusal) → (1 ≤ refusal_number r) × (refusal_number r ≤ 7)
-unfolding refusal_number
-number-within Size = (omega arith, omega arith)
-number-within Counts = (omega arith, omega arith)
-number-within Offsets = (omega arith, omega arith)
-number-within Labels = (omega arith, omega arith)
-number-within Start = (omega arith, omega arith)
-number-within Records = (omega arith, omega arith)
-number-within Code = (omega arith, omega arith)
-
-pub refused-number : (bs : List ℕ) (r : Refusal) → Refused r ≡ loaded bs → refusal_number r ≡ refusal bs
-refused-number bs r e = ap number_of e ∙ answer-number bs
-
-pub file-number : (bs : List ℕ) (h : Header) → File h ≡ loaded bs → refusal bs ≡ 0
-file-number bs h e = sym (ap number_of e ∙ answer-number bs)
-
-pub file-header : (bs : List ℕ) (h : Header) → File h ≡ loaded bs → h ≡ header bs
-unfolding loaded
-file-header bs h e = let same : File h ≡ File (header bs) = e ∙ ap (λ (n : ℕ). answer n (header bs)) (file-number bs h e) in cc
+use Rattle.file_sections.specs.Labels.{label_array}
+use Rattle.file_sections.specs.Refusals.{refusal_number, refusal_of}
+use Rattle.file_sections.specs.declared.Refusal.{Refusal}
+use Rattle.file_sections.proofs.Refusals.{answered, refused, told, answer-number as told-answer}
+use Rattle.labels.specs.declared.Label.{Label}
+use Rattle.std.specs.Prelude.{Ok, Err}
 
 abbrev pub checks : List ℕ → List Bool
 checks bs = passes1 bs ∷ passes2 bs ∷ passes3 bs ∷ passes4 bs ∷ passes5 bs ∷ passes6 bs ∷ passes7 bs ∷ []
@@ -65,6 +27,52 @@ checks bs = passes1 bs ∷ passes2 bs ∷ passes3 bs ∷ passes4 bs ∷ passes5 
 pub refusal-most : (bs : List ℕ) → refusal bs ≤ 7
 unfolding refusal_over
 refusal-most bs = lowest_most 0 (checks bs)
+
+-- the answer tells the number of the first check that applies, or 0
+pub answer-number : (bs : List ℕ) → told (loaded bs) ≡ refusal bs
+unfolding loaded
+answer-number bs = told-answer (refusal bs) (header bs) (omega (arith, refusal-most bs))
+
+-- ── the first check that does not pass stops the file ──
+
+module _ (bs : List ℕ) where
+  pub stops1 : passes1 bs ≡ false → refusal bs ≡ 1
+  unfolding refusal_over
+  stops1 e = rw e
+
+  module _ (p1 : passes1 bs ≡ true) where
+    pub stops2 : passes2 bs ≡ false → refusal bs ≡ 2
+    unfolding refusal_over
+    stops2 e = rw (p1, e)
+
+    module _ (p2 : passes2 bs ≡ true) where
+      pub stops3 : passes3 bs ≡ false → refusal bs ≡ 3
+      unfolding refusal_over
+      stops3 e = rw (p1, p2, e)
+
+      module _ (p3 : passes3 bs ≡ true) where
+        pub stops4 : passes4 bs ≡ false → refusal bs ≡ 4
+        unfolding refusal_over
+        stops4 e = rw (p1, p2, p3, e)
+
+        module _ (p4 : passes4 bs ≡ true) where
+          pub stops5 : passes5 bs ≡ false → refusal bs ≡ 5
+          unfolding refusal_over
+          stops5 e = rw (p1, p2, p3, p4, e)
+
+          module _ (p5 : passes5 bs ≡ true) where
+            pub stops6 : passes6 bs ≡ false → refusal bs ≡ 6
+            unfolding refusal_over
+            stops6 e = rw (p1, p2, p3, p4, p5, e)
+
+            module _ (p6 : passes6 bs ≡ true) where
+              pub stops7 : passes7 bs ≡ false → refusal bs ≡ 7
+              unfolding refusal_over
+              stops7 e = rw (p1, p2, p3, p4, p5, p6, e)
+
+              pub stops_none : passes7 bs ≡ true → refusal bs ≡ 0
+              unfolding refusal_over
+              stops_none e = rw (p1, p2, p3, p4, p5, p6, e)
 
 -- A file that is not refused passes each check.
 pub record Accepted (bs : List ℕ) : Type 0 where
@@ -99,11 +107,28 @@ pub in_place : (bs : List ℕ) → refusal bs ≡ 0 → Placed (header bs) (leng
 unfolding passes3
 in_place bs none = placed (header bs) (length bs) (accepted bs none).offsets
 
--- what a refusal, and what a file that loads, promises of the answer and of the words
-pub refuses : (bs ws : List ℕ) (n : ℕ) → refusal bs ≡ suc n → (Refused (get_or refusals n Code) ≡ loaded bs) × (ws ≡ words_after bs ws)
-unfolding loaded words_after
-refuses bs ws n e = (rw e, rw (e, eqb-suc-zero n))
+-- ── the answer ──
 
-pub loads : (bs ws : List ℕ) → refusal bs ≡ 0 → (File (header bs) ≡ loaded bs) × (label_words (or_none (file_labels bs)) ≡ words_after bs ws)
-unfolding loaded words_after
-loads bs ws e = (rw e, rw e)
+-- its number is the lowest that applies, one of 1 to 7
+pub refused-number : (bs : List ℕ) (r : Refusal) → Err r ≡ loaded bs → (refusal_number r ≡ refusal bs) × (1 ≤ refusal_number r) × (refusal_number r ≤ 7)
+unfolding loaded
+refused-number bs r e =
+    let most = refusal-most bs in
+    let n = refused (refusal bs) (header bs) (omega arith) e in
+    (n.0, omega arith, omega arith)
+
+-- a file that loads, with its header and its labels
+pub file-loads : (bs : List ℕ) (h : Header) (ls was : List Label) → Ok h ≡ loaded bs → ls ≡ labels_after bs was → Loads bs h ls
+unfolding loaded labels_after
+file-loads bs h ls was e l =
+    let n = answered (refusal bs) e in
+    record { none = n.0; numbers = n.1; labels = rw n.0 at l }
+
+-- what a refusal, and what a file that loads, promises of the answer and of the labels
+pub refuses : (bs : List ℕ) (ls : List Label) (n : ℕ) → refusal bs ≡ suc n → (Err (refusal_of (suc n)) ≡ loaded bs) × (ls ≡ labels_after bs ls)
+unfolding loaded labels_after
+refuses bs ls n e = (rw e, rw (e, eqb-suc-zero n))
+
+pub loads : (bs : List ℕ) (ls : List Label) → refusal bs ≡ 0 → (Ok (header bs) ≡ loaded bs) × (label_array (or_none (file_labels bs)) ≡ labels_after bs ls)
+unfolding loaded labels_after
+loads bs ls e = (rw e, rw e)

@@ -19,13 +19,14 @@ pub counted : (h : Header) → counts_ok h ≡ true → Counted h
 unfolding counts_ok
 counted h e =
     let p = every_each _ e in
+    let q = every_each _ p.0 in
     record {
-      labels = leb-true _ _ p.1.0;
-      records = leb-true _ _ p.1.1.0;
-      some_code = leb-true _ _ p.1.1.1.0;
-      code = leb-true _ _ p.1.1.1.1.0;
-      inputs_fit = leb-true _ _ p.1.1.1.1.1.1.0;
-      places = leb-true _ _ p.1.1.1.1.1.1.1.0;
+      labels = leb-true _ _ q.1.0;
+      records = leb-true _ _ q.1.1.0;
+      some_code = leb-true _ _ q.1.1.1.0;
+      code = leb-true _ _ q.1.1.1.1.0;
+      inputs_fit = leb-true _ _ p.1.1.0;
+      places = leb-true _ _ p.1.1.1.0;
     }
 
 pub record Placed (h : Header) (n : ℕ) : Type 0 where

@@ -1,24 +1,12 @@
 -- Laws of tests: the first of a list of tests that fails.
 use mathlib.Core.Bool.{Bool, true, false}
 use mathlib.Core.List.{List, [], ◌∷◌}
-use mathlib.Core.Path.{◌≡◌, refl, sym}
+use mathlib.Core.Path.{◌≡◌, refl}
 use Prim.Native.Nat.{ℕ, suc, ◌+◌, ◌≤◌}
 use native.Mathlib.Omega.{arith}
 use lib.ListN.{length}
 use Rattle.file_sections.proofs.Tests.{Each}
 use Rattle.script_file.specs.Checks.{lowest}
-
--- The tests ts, numbered from n, come to the number r. One that holds leaves those behind it, the first that fails gives its
--- number, and where none does it is 0.
-pub record Comes (n : ℕ) (ts : List Bool) (r : ℕ) : Type 0 where
-  pub to : lowest n ts ≡ r
-
-module _ {b : Bool} {n r : ℕ} {ts : List Bool} where
-  pub past : b ≡ true → Comes n (b ∷ ts) r → Comes (suc n) ts r
-  past t c = record { to = rw t at c.to }
-
-  pub stopped : b ≡ false → Comes n (b ∷ ts) r → r ≡ n
-  stopped f c = sym (rw f at c.to)
 
 -- where no test fails each holds
 pub lowest_each : (n : ℕ) (ts : List Bool) → lowest (suc n) ts ≡ 0 → Each ts

@@ -2,21 +2,20 @@
 use Rattle.std.specs.Prelude.{Bool, true, false, List, [], ◌∷◌, ℕ, suc, ◌+◌, ◌*◌, leb, eqb, length}
 use Rattle.labels.specs.Tables.{principals}
 use Rattle.labels.specs.Order.{flows}
-use Rattle.file_sections.specs.Checks.{every, labels_pass, records_pass}
+use Rattle.file_sections.specs.Checks.{every, size_within, counts_within, labels_pass, records_pass}
 use Rattle.script_file.specs.Sections.{header, sections, code_bytes, label_at_over}
 use Rattle.code_check.specs.Sweep.{code_ok}
 use Rattle.script_file.specs.declared.Header.{Header}
 
 -- 1: "Under 16 bytes or over 65,535."
 unfoldable pub size_ok : ℕ → Bool
-size_ok n = every (leb 16 n ∷ leb n 65535 ∷ [])
+size_ok n = size_within 16 n
 
 -- 2: "A count outside its limits."
 unfoldable pub counts_ok : Header → Bool
 counts_ok h =
     every
-    (leb 2 h.labels.count ∷ leb h.labels.count 32 ∷ leb h.records.count 64 ∷ leb 1 h.code.count
-    ∷ leb h.code.count 4096 ∷ leb 1 h.steps ∷ leb h.records.count h.places ∷ leb h.places 256 ∷ [])
+    (counts_within h.labels h.records h.code ∷ leb 1 h.steps ∷ leb h.records.count h.places ∷ leb h.places 256 ∷ [])
 
 -- 3: "Labels offset not 16, records offset under 16, code offset not records offset + 6C, or file length not code
 -- offset + N." The sums are exact, not modulo 2 ^ 16.

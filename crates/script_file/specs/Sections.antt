@@ -1,6 +1,5 @@
 -- The file: "Header, eight 16-bit numbers ... Labels start at 16; records, code and the file's end follow without gaps."
-use Rattle.std.specs.Prelude.{List, ℕ, drop}
-use Rattle.std.proofs.Math.Option.{Option}
+use Rattle.std.specs.Prelude.{List, ℕ, drop, Option}
 use Rattle.labels.specs.Tables.{principals}
 use Rattle.labels.specs.declared.Label.{Label}
 use Rattle.model.specs.Decoding.{u16}

@@ -1,4 +1,5 @@
 -- The view tells a reader nothing but what the two-run theorem keeps the same.
+use Rattle.std.specs.Prelude.{None, Some}
 use mathlib.Core.Bool.{Bool, true, false, true≢false}
 use mathlib.Core.List.{List, [], ◌∷◌, ◌++◌}
 use mathlib.Core.Path.{◌≡◌, refl, sym, ap, ap₂, ◌∙◌}
@@ -7,10 +8,8 @@ use native.Mathlib.Omega.{arith}
 use lib.ListN.{length}
 use Rattle.labels.specs.Tables.{principals}
 use Rattle.labels.specs.declared.Label.{Label}
-use Rattle.model.specs.State.{Store, Program, Outcome, at, shown}
+use Rattle.model.specs.State.{Store, Program, Outcome, at, shown, Slot}
 use Rattle.model.specs.declared.Account.{Account}
-use Rattle.model.specs.declared.Slot.{Slot}
-use Rattle.model.specs.declared.Slot.TheVariants.{Empty, Full}
 use Rattle.model.specs.declared.Ending.{Ending}
 use Rattle.model.proofs.LowEquivalence.{Ends, together, apart, LowOutcomes}
 use Rattle.view.specs.Layout.{slot_field, record_fields, one, records_shown, counts, final, view, length_over, view_over}
@@ -24,7 +23,8 @@ module _ (Reads : Label → Bool) where
   fields_alike p [] (y ∷ τ) e h = absurd (omega arith)
   fields_alike p (x ∷ σ) [] e h = absurd (omega arith)
   fields_alike p (x ∷ σ) (y ∷ τ) e h =
-      ap₂ (λ (z : Slot) (r : List ℕ). slot_field principals p z ++ r) (h 0) (fields_alike (suc p) σ τ (omega arith) (λ q. h (suc q)))
+      ap₂ (λ (z : Slot) (r : List ℕ). slot_field principals p z ++ r) (h 0)
+      (fields_alike (suc p) σ τ (omega arith) (λ q. h (suc q)))
 
   shown_alike : (σ τ : Store) → length σ ≡ length τ → ((q : ℕ) → shown Reads (at σ q) ≡ shown Reads (at τ q))
       → records_shown Reads σ ≡ records_shown Reads τ
@@ -38,10 +38,10 @@ module _ (Reads Low : Label → Bool) (within : (l : Label) → Reads l ≡ true
   -- what is shown to a reader of some labels in the set is a part of what an observer of the set is shown
   shown_twice : (x : Slot) → shown Reads x ≡ shown Reads (shown Low x)
   unfolding shown
-  shown_twice Empty = refl
-  shown_twice (Full x) = tests (Reads x.label) (Low x.label) refl refl
+  shown_twice None = refl
+  shown_twice (Some x) = tests (Reads x.label) (Low x.label) refl refl
     where
-      tests : (r s : Bool) → Reads x.label ≡ r → Low x.label ≡ s → shown Reads (Full x) ≡ shown Reads (shown Low (Full x))
+      tests : (r s : Bool) → Reads x.label ≡ r → Low x.label ≡ s → shown Reads (Some x) ≡ shown Reads (shown Low (Some x))
       tests r true e f = rw f
       tests true false e f = absurd (true≢false (sym (within x.label e) ∙ f))
       tests false false e f = rw (e, f)

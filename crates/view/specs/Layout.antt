@@ -1,13 +1,12 @@
 -- The view: what the observer, a reading label, is shown of a run's outcome.
-use Rattle.std.specs.Prelude.{Bool, cond, List, [], ◌∷◌, ◌++◌, ℕ, suc, ◌+◌, ◌-◌, ◌*◌, replicate}
+use Rattle.std.specs.Prelude.{Bool, cond, List, [], ◌∷◌, ◌++◌, ℕ, suc, ◌+◌, ◌-◌, ◌*◌, replicate, None, Some}
 use Rattle.labels.specs.Tables.{principals}
 use Rattle.labels.specs.declared.Label.{Label}
-use Rattle.model.specs.State.{Store, Outcome, shown}
+use Rattle.model.specs.State.{Store, Outcome, shown, Slot}
 use Rattle.model.specs.declared.Account.{Account}
-use Rattle.model.specs.declared.Slot.{Slot}
-use Rattle.model.specs.declared.Slot.TheVariants.{Empty, Full}
 use Rattle.model.specs.declared.Ending.{Ending}
-use Rattle.view_fields.specs.Fields.{label_width, value_width, record_width, little_endian, label_field, ending_number, result_field, record_field}
+use Rattle.view_fields.specs.Fields.{label_width, value_width, record_width, little_endian, label_field, ending_number}
+use Rattle.view_fields.specs.Fields.{result_field, record_field}
 
 -- what is 0 where the final label is hidden, over n principals: a value and two labels
 abbrev pub final_width : ℕ → ℕ
@@ -23,8 +22,8 @@ records_at = start_over principals
 -- ── records ──
 
 unfoldable pub slot_field : ℕ → ℕ → Slot → List ℕ
-slot_field n p Empty = []
-slot_field n p (Full r) = record_field n p r
+slot_field n p None = []
+slot_field n p (Some r) = record_field n p r
 
 -- the records of a store, the first being at place p, by rising place
 unfoldable pub record_fields : ℕ → (Label → Bool) → ℕ → Store → List ℕ
@@ -32,8 +31,8 @@ record_fields n Reads p [] = []
 record_fields n Reads p (x ∷ σ) = slot_field n p (shown Reads x) ++ record_fields n Reads (suc p) σ
 
 abbrev pub one : Slot → ℕ
-one Empty = 0
-one (Full r) = 1
+one None = 0
+one (Some r) = 1
 
 unfoldable pub records_shown : (Label → Bool) → Store → ℕ
 records_shown Reads [] = 0
@@ -62,7 +61,8 @@ length_over n Reads σ = start_over n + record_width n * records_shown Reads σ
 unfoldable pub view_over : ℕ → (Label → Bool) → ℕ → Outcome → List ℕ
 view_over n Reads s o =
     counts Reads s o.ending o.account
-    ++ little_endian 2 (records_shown Reads o.store) ++ little_endian 2 (start_over n) ++ little_endian 2 (length_over n Reads o.store)
+    ++ little_endian 2 (records_shown Reads o.store) ++ little_endian 2 (start_over n)
+    ++ little_endian 2 (length_over n Reads o.store)
     ++ final n Reads o.ending o.account
     ++ record_fields n Reads 0 o.store
 

@@ -6,6 +6,8 @@ use Rattle.model.specs.State.{Store, Outcome}
 use Rattle.model.specs.declared.Account.{Account}
 use Rattle.model.specs.declared.Finished.{Finished}
 use Rattle.view_fields.specs.Writing.{over}
+use Rattle.view.specs.Layout.{view}
+use Rattle.view.specs.declared.Run.{Run}
 
 -- the labels that the reader, itself a label, may observe
 abbrev pub observes : Label → Label → Bool
@@ -17,6 +19,13 @@ closing f = record { label = f.label; clearance = f.clearance; steps = f.steps; 
 
 abbrev pub finished : Finished → Store → Outcome
 finished f σ = record { ending = f.ending; account = closing f; store = σ }
+
+-- what a run that has ended leaves, and the view of it
+abbrev pub outcome : Run → Outcome
+outcome r = finished r.finish r.store.now
+
+abbrev pub run_view : Label → Run → List ℕ
+run_view reader r = view (observes reader) r.steps (outcome r)
 
 -- the buffer once v is written over its start, if it fits; else as it was
 unfoldable pub shown_in : List ℕ → List ℕ → List ℕ

@@ -9,11 +9,6 @@ use lib.ListN.{length, get_or, take, drop, set, length-append, length-take, leng
 use lib.Seq.{drop-cons, length-take-le, take_all, take_at, drop_at, drop-drop, set_split}
 use Rattle.view_fields.specs.Writing.{over}
 
--- what is as long as the buffer takes all of it
-pub over_all : (v b : List ℕ) → length b ≤ length v → over v b ≡ v
-unfolding over
-over_all v b h = ap (λ (z : List ℕ). v ++ z) (drop_of_length-le b {i = length v} h) ∙ append-nil v
-
 -- the element at i, and those behind it
 pub from_here : {A : Type 0} (xs : List A) (d : A) (i : ℕ) → i < length xs → drop i xs ≡ get_or xs i d ∷ drop (i + 1) xs
 from_here xs d i h = drop-cons xs i d h ∙ ap (λ (k : ℕ). get_or xs i d ∷ drop k xs) (sym (add-one i))
@@ -48,7 +43,8 @@ part_drop i b = take_all (length b - i) (drop i b) (rw length-drop (omega arith)
 -- the part from i on comes back with xs over its start
 pub back_over : (i : ℕ) (b xs ys : List ℕ) → ys ≡ over xs (part i b) → back i b ys ≡ take i b ++ over xs (drop i b)
 back_over i b xs ys r =
-    ap₂ (λ (y z : List ℕ). take i b ++ (y ++ z)) (r ∙ ap (over xs) (part_drop i b)) none ∙ ap (λ (y : List ℕ). take i b ++ y) (append-nil _)
+    ap₂ (λ (y z : List ℕ). take i b ++ (y ++ z)) (r ∙ ap (over xs) (part_drop i b)) none
+    ∙ ap (λ (y : List ℕ). take i b ++ y) (append-nil _)
   where
     none : drop (length b - i) (drop i b) ≡ []
     none = drop_of_length-le (drop i b) {i = length b - i} (let z = length-drop i b in omega arith)
@@ -60,7 +56,13 @@ length_back i b ys h e =
     ∙ simp (e, part_drop i b, length-drop) (omega arith)
 
 pub start : {whole left b : List ℕ} → left ≡ whole → Writing whole left b b 0
-start {b = b} e = record { room = omega arith; same = refl; count = let f = ap length e in omega arith; rest = ap (λ (v : List ℕ). over v b) (sym e) }
+start {b = b} e =
+    record {
+      room = omega arith;
+      same = refl;
+      count = let f = ap length e in omega arith;
+      rest = ap (λ (v : List ℕ). over v b) (sym e);
+    }
 
 pub ends_at : {whole left b₀ b : List ℕ} {i : ℕ} → Writing whole left b₀ b i → left ≡ [] → i ≡ length whole
 ends_at {left = left} w e = let f : length left ≡ 0 = ap length e in omega (arith, w.count)
@@ -90,7 +92,8 @@ module _ {whole left b₀ b : List ℕ} {i : ℕ} (w : Writing whole left b₀ b
 
       long : length b' ≡ length b
       long =
-          ap length split ∙ length-append (take i b ++ xs) (drop (length xs) (drop i b)) ∙ simp (front, length-drop) (omega (arith, w.same))
+          ap length split ∙ length-append (take i b ++ xs) (drop (length xs) (drop i b))
+          ∙ simp (front, length-drop) (omega (arith, w.same))
 
       behind : drop (length left) (drop i b) ≡ drop (length l) (drop (length xs) (drop i b))
       behind =
@@ -101,7 +104,8 @@ module _ {whole left b₀ b : List ℕ} {i : ℕ} (w : Writing whole left b₀ b
 
       joined : take (i + n) b' ++ over l (drop (i + n) b') ≡ (take i b ++ xs) ++ (l ++ drop (length l) far)
       joined =
-          ap₂ (λ (a z : List ℕ). a ++ (l ++ drop (length l) z)) (ap (take (i + n)) split ∙ take_at (take i b ++ xs) far (i + n) front)
+          ap₂ (λ (a z : List ℕ). a ++ (l ++ drop (length l) z))
+          (ap (take (i + n)) split ∙ take_at (take i b ++ xs) far (i + n) front)
           (ap (drop (i + n)) split ∙ drop_at (take i b ++ xs) far (i + n) front)
 
       whole_rest : take i b ++ over left (drop i b) ≡ take (i + n) b' ++ over l (drop (i + n) b')
@@ -115,7 +119,8 @@ module _ {whole left b₀ b : List ℕ} {i : ℕ} (w : Writing whole left b₀ b
   unfolding over
   byte {x} {l} d h =
       more (x ∷ []) l d 1 refl (omega arith) (set b i x)
-      (set_split b i x (omega (arith, w.same)) ∙ ap (λ (z : List ℕ). take i b ++ (x ∷ z)) (ap (λ (k : ℕ). drop k b) (sym (add-one i)) ∙ sym (drop-drop 1 i b)))
+      (set_split b i x (omega (arith, w.same)) ∙ ap (λ (z : List ℕ). take i b ++ (x ∷ z))
+      (ap (λ (k : ℕ). drop k b) (sym (add-one i)) ∙ sym (drop-drop 1 i b)))
 
   pub room_for : (n : ℕ) → i + n ≤ length b₀ → n ≤ length (part i b)
   room_for n h = simp (length-take, length-drop) (omega (arith, w.same))
@@ -130,7 +135,8 @@ module _ {whole left b₀ b : List ℕ} {i : ℕ} (w : Writing whole left b₀ b
   piece xs {l} d {n} e h {ys} r = more xs l d n e h (back i b ys) (back_over i b xs ys r)
 
   -- the same where there is room for the whole
-  pub next : length whole ≤ length b₀ → (xs : List ℕ) {l : List ℕ} → left ≡ xs ++ l → {n : ℕ} → n ≡ length xs → {ys : List ℕ} → ys ≡ over xs (part i b)
+  pub next : length whole ≤ length b₀ → (xs : List ℕ) {l : List ℕ} → left ≡ xs ++ l → {n : ℕ} → n ≡ length xs → {ys : List ℕ}
+      → ys ≡ over xs (part i b)
       → Writing whole l b₀ (back i b ys) (i + n)
   next h xs {l} d e r = piece xs d (sym e) (room_next h xs l d (sym e)) r
 
@@ -142,15 +148,19 @@ module _ {whole left b₀ b : List ℕ} {i : ℕ} (w : Writing whole left b₀ b
   last e h r = ends (piece left (sym (append-nil left)) e h r) refl
 
 -- the first piece: the whole buffer is lent
-pub first : {whole l b : List ℕ} (xs : List ℕ) → whole ≡ xs ++ l → {n : ℕ} → length xs ≡ n → n ≤ length b → {b' : List ℕ} → b' ≡ over xs b → Writing whole l b b' n
-first {whole} {l} {b} xs d {n} e h {b'} q = rw zero-add at (more (start {whole = whole} {b = b} refl) xs l d n e (omega arith) b' q)
+pub first : {whole l b : List ℕ} (xs : List ℕ) → whole ≡ xs ++ l → {n : ℕ} → length xs ≡ n → n ≤ length b → {b' : List ℕ}
+    → b' ≡ over xs b → Writing whole l b b' n
+first {whole} {l} {b} xs d {n} e h {b'} q =
+    rw zero-add at (more (start {whole = whole} {b = b} refl) xs l d n e (omega arith) b' q)
 
 -- Two pieces of which the one behind is written first: its part from k on came back as b₁, and then xs, k bytes, is
 -- written over the start.
-pub before : (xs ys b : List ℕ) {k : ℕ} → length xs ≡ k → k ≤ length b → {b₁ : List ℕ} → b₁ ≡ over ys (part k b) → over xs (back k b b₁) ≡ over (xs ++ ys) b
+pub before : (xs ys b : List ℕ) {k : ℕ} → length xs ≡ k → k ≤ length b → {b₁ : List ℕ} → b₁ ≡ over ys (part k b)
+    → over xs (back k b b₁) ≡ over (xs ++ ys) b
 unfolding over
 before xs ys b {k} e h {b₁} q =
-    ap (λ (z : List ℕ). xs ++ z) (ap (drop (length xs)) (back_over k b ys b₁ q) ∙ drop_at (take k b) (over ys (drop k b)) (length xs) (length-take-le k b h ∙ sym e))
+    ap (λ (z : List ℕ). xs ++ z) (ap (drop (length xs)) (back_over k b ys b₁ q)
+    ∙ drop_at (take k b) (over ys (drop k b)) (length xs) (length-take-le k b h ∙ sym e))
     ∙ sym (append_assoc xs ys (drop (length ys) (drop k b)))
     ∙ ap (λ (z : List ℕ). (xs ++ ys) ++ z) (drop-drop (length ys) k b ∙ ap (λ (n : ℕ). drop n b) long)
   where
@@ -164,15 +174,18 @@ two xs ys b ex ey h e₁ e₂ = last (first {whole = xs ++ ys} {l = ys} xs refl 
 
 -- three pieces likewise
 pub three : (xs ys zs b : List ℕ) {k m n : ℕ} → length xs ≡ k → length ys ≡ m → length zs ≡ n → k + m + n ≤ length b
-    → {b₁ : List ℕ} → b₁ ≡ over xs b → {b₂ : List ℕ} → b₂ ≡ over ys (part k b₁) → {b₃ : List ℕ} → b₃ ≡ over zs (part (k + m) (back k b₁ b₂))
+    → {b₁ : List ℕ} → b₁ ≡ over xs b → {b₂ : List ℕ} → b₂ ≡ over ys (part k b₁) → {b₃ : List ℕ}
+    → b₃ ≡ over zs (part (k + m) (back k b₁ b₂))
     → back (k + m) (back k b₁ b₂) b₃ ≡ over (xs ++ (ys ++ zs)) b
 three xs ys zs b ex ey ez h e₁ e₂ e₃ =
     let one = first {whole = xs ++ (ys ++ zs)} {l = ys ++ zs} xs refl ex (omega arith) e₁ in
     last (piece one ys {l = zs} refl ey (omega arith) e₂) ez h e₃
 
 -- four pieces likewise
-pub four : (xs ys zs vs b : List ℕ) {k m n l : ℕ} → length xs ≡ k → length ys ≡ m → length zs ≡ n → length vs ≡ l → k + m + n + l ≤ length b
-    → {b₁ : List ℕ} → b₁ ≡ over xs b → {b₂ : List ℕ} → b₂ ≡ over ys (part k b₁) → {b₃ : List ℕ} → b₃ ≡ over zs (part (k + m) (back k b₁ b₂))
+pub four : (xs ys zs vs b : List ℕ) {k m n l : ℕ} → length xs ≡ k → length ys ≡ m → length zs ≡ n → length vs ≡ l
+    → k + m + n + l ≤ length b
+    → {b₁ : List ℕ} → b₁ ≡ over xs b → {b₂ : List ℕ} → b₂ ≡ over ys (part k b₁) → {b₃ : List ℕ}
+    → b₃ ≡ over zs (part (k + m) (back k b₁ b₂))
     → {b₄ : List ℕ} → b₄ ≡ over vs (part (k + m + n) (back (k + m) (back k b₁ b₂) b₃))
     → back (k + m + n) (back (k + m) (back k b₁ b₂) b₃) b₄ ≡ over (xs ++ (ys ++ (zs ++ vs))) b
 four xs ys zs vs b ex ey ez ev h e₁ e₂ e₃ e₄ =

@@ -4,10 +4,10 @@ use mathlib.Core.List.{List, ◌∷◌, ◌++◌}
 use Prim.Native.Nat.{ℕ, zero, suc, ◌+◌, ◌*◌, ◌/◌, ◌%◌, ◌^◌, ◌<◌}
 use native.Mathlib.Nat.{zero-add, pow-suc, mul_assoc}
 use native.Mathlib.Omega.{arith}
-use Rattle.labels.specs.Tables.{principals, whole, lowest}
+use Rattle.labels.specs.Tables.{whole}
 use Rattle.labels.specs.declared.Table.{Table}
 use Rattle.labels.proofs.Wide.{Fits}
-use Rattle.view_fields.specs.Fields.{little_endian, value_field}
+use Rattle.view_fields.specs.Fields.{little_endian}
 
 -- the bytes of a number of two parts, the lower of j bytes
 two_parts : (j k hi lo : ℕ) → lo < 256 ^ j → little_endian (j + k) (hi * 256 ^ j + lo) ≡ little_endian j lo ++ little_endian k hi
@@ -24,16 +24,9 @@ two_parts (suc j) k hi lo h =
     ∙ two_parts j k hi (lo / 256) (omega (arith, p)))
 
 pub table_bytes : (t : Table) → Fits t
-    → little_endian 8 t.word0 ++ (little_endian 8 t.word1 ++ (little_endian 8 t.word2 ++ little_endian 8 t.word3)) ≡ little_endian 32 (whole t)
+    → little_endian 8 t.word0 ++ (little_endian 8 t.word1 ++ (little_endian 8 t.word2 ++ little_endian 8 t.word3))
+    ≡ little_endian 32 (whole t)
 table_bytes t f =
     sym (two_parts 8 24 _ t.word0 f.fits0
     ∙ ap (λ (bs : List ℕ). little_endian 8 t.word0 ++ bs) (two_parts 8 16 _ t.word1 f.fits1
     ∙ ap (λ (bs : List ℕ). little_endian 8 t.word1 ++ bs) (two_parts 8 8 t.word3 t.word2 f.fits2)))
-
--- a number as wide as a table is the number
-whole_lowest : {t : Table} (n : ℕ) → t ≡ lowest n → whole t ≡ n
-whole_lowest n e = ap (λ (t : Table). whole t) e ∙ (let f : whole (lowest n) ≡ n = omega arith in f)
-
--- a value of two numbers, each as wide as a table
-pub low_value : (k x y : ℕ) {a b : Table} → a ≡ lowest x → b ≡ lowest y → value_field principals k (whole a) (whole b) ≡ value_field principals k x y
-low_value k x y d e = ap₂ (λ (v w : ℕ). value_field principals k v w) (whole_lowest x d) (whole_lowest y e)

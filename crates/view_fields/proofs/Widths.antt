@@ -1,12 +1,11 @@
 -- How many bytes each field of a view has. Assumes nothing.
 use mathlib.Core.Path.{◌≡◌, refl, ap, ap₂, ◌∙◌}
 use mathlib.Core.List.{List, ◌++◌}
-use Prim.Native.Nat.{ℕ, zero, suc, ◌+◌, ◌≤◌, ◌/◌}
+use Prim.Native.Nat.{ℕ, zero, suc, ◌+◌, ◌/◌}
 use native.Mathlib.Omega.{arith}
 use lib.ListN.{length, length-append}
 use Rattle.labels.specs.Tables.{principals, whole}
 use Rattle.labels.specs.declared.Label.{Label}
-use Rattle.model.specs.declared.Kind.{Kind}
 use Rattle.model.specs.declared.Kind.TheVariants.{Sealed, Reference}
 use Rattle.model.specs.declared.Datum.{Datum}
 use Rattle.model.specs.declared.Datum.TheVariants.{Number, Label as Labelled, Handle}
@@ -15,7 +14,8 @@ use Rattle.model.specs.declared.Contents.TheVariants.{Value as Holds, Fault}
 use Rattle.model.specs.declared.Record.{Record}
 use Rattle.model.specs.declared.Ending.{Ending}
 use Rattle.model.specs.declared.Ending.TheVariants.{Result, Fault as Faulted, Spent}
-use Rattle.view_fields.specs.Fields.{table_width, label_width, value_width, record_width, little_endian, label_field, value_field, datum_field, contents_field, result_field, kind_byte, record_field}
+use Rattle.view_fields.specs.Fields.{table_width, label_width, value_width, record_width, little_endian, label_field, value_field}
+use Rattle.view_fields.specs.Fields.{datum_field, contents_field, result_field, record_field}
 use Rattle.view_fields.specs.Writing.{numbers, triple_field}
 use Rattle.view_fields.specs.declared.Triple.{Triple}
 
@@ -52,17 +52,6 @@ module _ (n : ℕ) where
 pub length_triple : (v : Triple) → length (triple_field v) ≡ value_width principals
 length_triple v = length_value principals v.kind (whole v.first) (whole v.second)
 
--- a handle's kind is 3 or 4, by that of its record
-pub handle_field : (n : ℕ) (k : Kind) (p : ℕ) → datum_field n (Handle k p) ≡ value_field n (3 + kind_byte k) p 0
-unfolding datum_field kind_byte
-handle_field n Sealed p = refl
-handle_field n Reference p = refl
-
-pub kind_small : (k : Kind) → kind_byte k ≤ 1
-unfolding kind_byte
-kind_small Sealed = omega arith
-kind_small Reference = omega arith
-
 module _ (n : ℕ) where
   length_datum : (d : Datum) → length (datum_field n d) ≡ value_width n
   unfolding datum_field
@@ -87,5 +76,6 @@ module _ (n : ℕ) where
   pub length_record : (p : ℕ) (r : Record) → length (record_field n p r) ≡ record_width n
   unfolding record_field
   length_record p r =
-      let e = length_two (label_field n r.label) (contents_field n r.contents) (label_width n) (value_width n) (length_label n r.label) (length_contents r.contents) in
+      let e = length_two (label_field n r.label) (contents_field n r.contents) (label_width n) (value_width n)
+      (length_label n r.label) (length_contents r.contents) in
       omega arith

@@ -3,13 +3,15 @@
 
 ghost use Rattle.std.specs.Prelude.{◌≡◌, [], ◌∷◌, ◌≤◌, length, replicate};
 ghost use Rattle.labels.specs.Tables.{principals, whole};
-ghost use Rattle.view_fields.specs.Fields.{table_width, label_width, value_width, record_width, little_endian, label_field, datum_field, contents_field, ending_number, result_field, kind_byte, record_field};
+ghost use Rattle.view_fields.specs.Fields.{table_width, label_width, value_width, record_width, little_endian};
+ghost use Rattle.view_fields.specs.Fields.{label_field, value_field, datum_field, contents_field, record_field};
+ghost use Rattle.view_fields.specs.Fields.{ending_number, result_field, kind_byte};
 ghost use Rattle.view_fields.specs.Writing.{over, numbers, triple_field};
 
 use labels::{Label, Table};
 use model::{Contents, Datum, Ending, Kind, Record};
 
-// A value as a view has it: its kind, and two words as wide as a table.
+// A value as a view has it: its kind, which is a byte there, and two words as wide as a table.
 #[derive(Clone, Copy)]
 pub struct Triple {
     pub kind: u8,
@@ -56,11 +58,9 @@ fn write_number(n: u64, width: usize, out: &mut [u8])
     ensures { out.new ≡ over (little_endian width n) out.old }
 {
     let mut rest = n;
-    let mut i = 0;
-    while i < width {
-        out[i] = (rest & 255) as u8;
-        rest = rest >> 8;
-        i += 1;
+    for b in &mut out[..width] {
+        *b = (rest & 255) as u8;
+        rest >>= 8;
     }
 }
 
@@ -74,17 +74,15 @@ pub fn write_numbers(a: u64, b: u64, c: u64, out: &mut [u8])
     write_number(c, NUMBER, &mut out[TWO_NUMBERS..]);
 }
 
+#[tactic(auto, unfolding(crate::specs::Writing::over))]
 pub fn write_zeros(count: usize, out: &mut [u8])
     requires { count ≤ length out.old }
     ensures { out.new ≡ over (replicate count 0) out.old }
 {
-    let mut i = 0;
-    while i < count {
-        out[i] = 0;
-        i += 1;
-    }
+    out[..count].fill(0);
 }
 
+#[tactic(auto, unfolding(crate::specs::Writing::over))]
 pub fn write_pair(a: u8, b: u8, out: &mut [u8])
     requires { 2 ≤ length out.old }
     ensures { out.new ≡ over (a ∷ b ∷ []) out.old }
@@ -122,49 +120,53 @@ pub fn write_value(v: Triple, out: &mut [u8])
     write_table(v.second, &mut out[SECOND..]);
 }
 
-// The value that a datum is shown as.
-fn of_datum(d: Datum) -> Triple
-    ensures { triple_field result ≡ datum_field principals d }
+// A value of two numbers.
+fn numbered(kind: u8, first: u64, second: u64) -> Triple
+    ensures { triple_field result ≡ value_field principals kind first second }
 {
-    match d {
-        Datum::Number(n) => Triple {
-            kind: 1,
-            first: labels::low_table(n as u64),
-            second: labels::low_table(0),
-        },
-        Datum::Label(l) => {
-            let first = l.secrecy;
-            let second = l.integrity;
-            Triple {
+    Triple {
+        kind,
+        first: labels::low_table(first),
+        second: labels::low_table(second),
+    }
+}
+
+// The value that a datum is shown as.
+impl From<Datum> for Triple {
+    ghost from_gives = { λ d t. triple_field t ≡ datum_field principals d };
+
+    #[tactic(auto, unfolding(crate::specs::Fields::datum_field))]
+    fn from(d: Datum) -> Triple {
+        match d {
+            Datum::Number(n) => numbered(1, u64::from(n), 0),
+            Datum::Label(l) => Triple {
                 kind: 2,
-                first: first,
-                second: second,
-            }
+                first: l.secrecy,
+                second: l.integrity,
+            },
+            Datum::Handle(Kind::Sealed, p) => numbered(3, p as u64, 0),
+            Datum::Handle(Kind::Reference, p) => numbered(4, p as u64, 0),
         }
-        Datum::Handle(kind, p) => Triple {
-            kind: 3 + kind_byte(kind),
-            first: labels::low_table(p as u64),
-            second: labels::low_table(0),
-        },
     }
 }
 
 // The value that a record's contents are shown as.
-fn of_contents(contents: Contents) -> Triple
-    ensures { triple_field result ≡ contents_field principals contents }
-{
-    match contents {
-        Contents::Value(d) => of_datum(d),
-        Contents::Fault(code, number) => Triple {
-            kind: 5,
-            first: labels::low_table(code as u64),
-            second: labels::low_table(number as u64),
-        },
+impl From<Contents> for Triple {
+    ghost from_gives = { λ c t. triple_field t ≡ contents_field principals c };
+
+    #[tactic(auto, unfolding(crate::specs::Fields::contents_field))]
+    fn from(contents: Contents) -> Triple {
+        match contents {
+            Contents::Value(d) => Triple::from(d),
+            Contents::Fault(code, number) => numbered(5, u64::from(code), u64::from(number)),
+        }
     }
 }
 
 // ---- the ending
 
+// The number that stands for it in a view.
+#[tactic(auto, unfolding(crate::specs::Fields::ending_number))]
 pub fn ending_number(ending: Ending) -> u64
     ensures { result ≡ ending_number ending }
 {
@@ -176,26 +178,23 @@ pub fn ending_number(ending: Ending) -> u64
 }
 
 // The value that a run's result is shown as: the fault, or none if spent.
-pub fn of_ending(ending: Ending) -> Triple
-    ensures { triple_field result ≡ result_field principals ending }
-{
-    match ending {
-        Ending::Result(d) => of_datum(d),
-        Ending::Fault(code, number) => Triple {
-            kind: 5,
-            first: labels::low_table(code as u64),
-            second: labels::low_table(number as u64),
-        },
-        Ending::Spent => Triple {
-            kind: 0,
-            first: labels::low_table(0),
-            second: labels::low_table(0),
-        },
+impl From<Ending> for Triple {
+    ghost from_gives = { λ e t. triple_field t ≡ result_field principals e };
+
+    #[tactic(auto, unfolding(crate::specs::Fields::result_field))]
+    fn from(ending: Ending) -> Triple {
+        match ending {
+            Ending::Result(d) => Triple::from(d),
+            Ending::Fault(code, number) => numbered(5, u64::from(code), u64::from(number)),
+            Ending::Spent => numbered(0, 0, 0),
+        }
     }
 }
 
 // ---- records
 
+// The byte that a view has for a kind. A function: a `From` would have to stand in `model`, which knows of no view.
+#[tactic(auto, unfolding(crate::specs::Fields::kind_byte))]
 fn kind_byte(kind: Kind) -> u8
     ensures { result ≡ kind_byte kind }
 {
@@ -210,10 +209,7 @@ pub fn write_record(p: u8, r: Record, out: &mut [u8])
     requires { record_width principals ≤ length out.old }
     ensures { out.new ≡ over (record_field principals p r) out.old }
 {
-    let kind = r.kind;
-    let label = r.label;
-    let contents = r.contents;
-    write_pair(p, kind_byte(kind), out);
-    write_label(label, &mut out[RECORD_LABEL..]);
-    write_value(of_contents(contents), &mut out[RECORD_VALUE..]);
+    write_pair(p, kind_byte(r.kind), out);
+    write_label(r.label, &mut out[RECORD_LABEL..]);
+    write_value(Triple::from(r.contents), &mut out[RECORD_VALUE..]);
 }

@@ -1,11 +1,7 @@
 -- The jobs below k have had their turn.
-use Rattle.std.proofs.Common.{◌-◌}
 use Rattle.view.specs.Writing.{observes}
 use Rattle.day.proofs.Views.{Served}
 use Rattle.day.proofs.write_views.Given as goal
 
 abbrev pub invariant-loop-k : goal.invariant-loop-k
-invariant-loop-k l = Served (observes l.reader) l.file l.fn.out l.out l.store l.callers l.at l.k
-
-abbrev pub decreases-loop-k : goal.decreases-loop-k
-decreases-loop-k l = l.count - l.k
+invariant-loop-k l = Served (observes l.reader) l.day.file.now l.fn.out l.out l.store l.callers l.at l.k

@@ -13,4 +13,4 @@ write_line-requires c =
 pub returns : goal.returns
 returns c =
     let held : c.write_skipped.new.out ≡ skipped_view = c.write_skipped.ensures ∙ skipped_alone in
-    rw held at c.write_line.ensures
+    record { long = rw held at c.write_line.ensures.count; written = rw held at c.write_line.ensures.written }

@@ -1,10 +1,11 @@
--- The lines of the first i labels are written, up to byte `at`.
+-- The lines of the labels so far are written, up to byte `at`.
 use Rattle.std.proofs.Common.{◌-◌}
-use Rattle.file_lines.proofs.Labels.{Written}
+use Rattle.lines.specs.Lines.{lines}
+use Rattle.view_fields.proofs.Buffers.{Writing}
+use Rattle.file_lines.specs.Lines.{file_lines}
 use Rattle.file_lines.proofs.write_lines.Given as goal
 
-abbrev pub invariant-loop-i : goal.invariant-loop-i
-invariant-loop-i l = Written l.file l.initial.out l.out l.count l.at l.i
-
-abbrev pub decreases-loop-i : goal.decreases-loop-i
-decreases-loop-i l = l.count - l.i
+abbrev pub invariant-loop-reader : goal.invariant-loop-reader
+invariant-loop-reader l =
+    let bs = l.script.file.now in
+    Writing (file_lines bs) (lines bs (l.script.header.labels.count - l.reader-index) l.reader-index) l.initial.out l.out l.at

@@ -1,29 +1,26 @@
--- A file that is refused has a line with one digit; one that loads has a line for each label.
-use Rattle.std.proofs.Common.{refl, sym, ◌∙◌, arith, ◌<◌, replicate}
-use Rattle.model.specs.Words.{file_words}
-use Rattle.reading.proofs.Calls.{read_loads, length_words}
-use Rattle.file_lines.proofs.Printed.{one_digit, refused_printed, lines_printed}
+-- A file that is refused has the line of its refusal; one that loads has a line for each label.
+use Rattle.std.proofs.Common.{sym, ◌∙◌}
+use Rattle.script_file.proofs.Answers.{file-loads}
+use Rattle.file_lines.proofs.Printed.{refused_printed, lines_printed}
 use Rattle.file_lines.proofs.write_printed.Goals as goal
 
-pub overflow_cast-number : goal.overflow_cast-number
-overflow_cast-number c = let small : c.number.result < 10 = rw c.number.ensures (one_digit _) in omega arith
+pub invariant_of-script : goal.invariant_of-script
+invariant_of-script c = record { loads = file-loads _ _ _ _ (sym c.in-Ok.is ∙ c.load.ensures.0) c.load.ensures.1 }
 
-pub write_refused-requires : goal.write_refused-requires
-write_refused-requires c =
-    let small : c.number.result < 10 = rw c.number.ensures (one_digit _) in (omega arith, omega (arith, c.requires))
+pub returns-in-Ok-clause-count : goal.returns-in-Ok-clause-count
+returns-in-Ok-clause-count c =
+    let loads = file-loads _ _ _ _ (sym c.in-Ok.is ∙ c.load.ensures.0) c.load.ensures.1 in
+    rw (lines_printed c.args.file.now loads.none) at c.write_lines.ensures.count
 
-pub write_lines-requires : goal.write_lines-requires
-write_lines-requires c = (
-  read_loads _ _ _ _ (sym c.in-File.is ∙ c.load-loaded.ensures.0) c.load-loaded.ensures.1,
-  length_words _ (replicate file_words 0) _ refl c.load-loaded.ensures.1,
-  c.requires,
-)
+pub returns-in-Ok-clause-written : goal.returns-in-Ok-clause-written
+returns-in-Ok-clause-written c =
+    let loads = file-loads _ _ _ _ (sym c.in-Ok.is ∙ c.load.ensures.0) c.load.ensures.1 in
+    rw (lines_printed c.args.file.now loads.none) at c.write_lines.ensures.written
 
-pub returns-in-Refused : goal.returns-in-Refused
-returns-in-Refused c =
-    refused_printed _ _ _ _ _ _ (sym c.in-Refused.is ∙ c.load-loaded.ensures.0) c.number.ensures c.write_refused.ensures
+pub returns-in-Err-clause-count : goal.returns-in-Err-clause-count
+returns-in-Err-clause-count c =
+    rw (refused_printed c.args.file.now c.in-Err.refusal (sym c.in-Err.is ∙ c.load.ensures.0)) at c.write_refusal.ensures.count
 
-pub returns-in-File : goal.returns-in-File
-returns-in-File c =
-    let loads = read_loads _ _ _ _ (sym c.in-File.is ∙ c.load-loaded.ensures.0) c.load-loaded.ensures.1 in
-    rw (lines_printed _ loads.none) at c.write_lines.ensures
+pub returns-in-Err-clause-written : goal.returns-in-Err-clause-written
+returns-in-Err-clause-written c =
+    rw (refused_printed c.args.file.now c.in-Err.refusal (sym c.in-Err.is ∙ c.load.ensures.0)) at c.write_refusal.ensures.written

@@ -9,8 +9,5 @@ decreases-State::step l = l.self.steps + l.self.steps
 abbrev pub decreases-run : goal.decreases-run
 decreases-run l = l.a.steps + l.a.steps + 1
 
-abbrev pub invariant-State::step-loop-todo : goal.invariant-State::step-loop-todo
-invariant-State::step-loop-todo l = Held l.code l.labels l.records l.fn.self l.fn.store l.count l.self l.store l.todo
-
-abbrev pub decreases-State::step-loop-todo : goal.decreases-State::step-loop-todo
-decreases-State::step-loop-todo l = l.todo
+abbrev pub invariant-State::step-loop : goal.invariant-State::step-loop
+invariant-State::step-loop l = Held l.program l.fn.self l.fn.store l.fn.count l.self l.store l.counter

@@ -1,22 +1,19 @@
--- Each record goes into the place of its index.
-use mathlib.Core.Path.{ap, ◌∙◌}
-use Prim.Native.Nat.{◌*◌}
+-- Each six bytes are the next input record.
+use mathlib.Core.Path.{◌∙◌}
 use native.Mathlib.Omega.{arith}
-use lib.ListN.{set}
-use Rattle.model.specs.Words.{label_in}
-use Rattle.model.specs.declared.Record.{Record}
-use Rattle.model.specs.declared.Slot.TheVariants.{Full}
-use Rattle.store.specs.Slots.{slots}
-use Rattle.reading.proofs.Placing.{place_start, place_one, place_end, record_in}
+use Rattle.reading.proofs.Placing.{place_start, place_one, place_end}
 use Rattle.reading.proofs.place_inputs.Goals as goal
 
 pub loop-i-init : goal.loop-i-init
-loop-i-init c = place_start _ _ _ _ (omega (arith, c.requires.0)) c.requires.2 c.requires.3
+loop-i-init c =
+    rw (c.into_iter-i-iterator.ensures.into_iter_gives, c.enumerate-i-items.ensures.source, c.enumerate-i-items.ensures.count, c.chunks_exact.ensures.rest, c.requires.1)
+    (c.chunks_exact.ensures.size, place_start _ _ c.requires.0)
 
 pub loop-i-preserved : goal.loop-i-preserved
 loop-i-preserved c =
-    place_one _ _ c.loop-i.store _ c.loop-i.i _ c.loop-i.invariant c.loop-i-test.true (c.save.auto.store ∙ c.loop-i.invariant.size)
-    (c.save.ensures ∙ ap (λ (x : Record). set (slots c.loop-i.store) c.loop-i.i (Full x)) (c.input_record.ensures ∙ record_in (label_in c.args.labels.now) c.args.records.now (6 * c.loop-i.i)))
+    let s = c.in-Some.ensures.steps in
+    let six = s.0.1.1 ∙ c.loop-i.invariant.0 in
+    (s.0.0 ∙ c.loop-i.invariant.0, rw (s.1, s.2, c.input_record.ensures) (place_one _ _ c.requires.0 _ _ _ _ _ c.loop-i.invariant.1 s.0.1.0 six))
 
 pub returns : goal.returns
-returns c = place_end _ _ _ _ _ c.loop-i.invariant (omega (arith, c.loop-i-test.false))
+returns c = place_end _ _ c.requires.0 _ _ _ c.loop-i.invariant.1 (let s = c.in-None.ensures.steps in omega (arith, s.0.1.0, c.loop-i.invariant.0))

@@ -1,11 +1,7 @@
 -- The records shown before place p are written.
-use Rattle.std.proofs.Common.{◌-◌}
 use Rattle.view.specs.Writing.{observes}
 use Rattle.view.proofs.Places.{Written}
 use Rattle.view.proofs.write_records.Given as goal
 
 abbrev pub invariant-loop-p : goal.invariant-loop-p
 invariant-loop-p l = Written (observes l.reader) l.store l.initial.out l.out l.n l.p
-
-abbrev pub decreases-loop-p : goal.decreases-loop-p
-decreases-loop-p l = 256 - l.p

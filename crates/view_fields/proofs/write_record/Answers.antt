@@ -12,7 +12,8 @@ unfolding record_field
 returns c =
     let a = c.args in
     let l = label_field principals a.r.label in
-    let t = c.of_contents.result in
-    three (a.p ∷ c.kind_byte.result ∷ []) l (triple_field t) a.out.now refl (length_label principals a.r.label) (length_triple t) c.requires
+    let t = c.from.result in
+    three (a.p ∷ c.kind_byte.result ∷ []) l (triple_field t) a.out.now
+    refl (length_label principals a.r.label) (length_triple t) c.requires
     c.write_pair.ensures c.write_label.ensures c.write_value.ensures
-    ∙ ap₂ (λ (k : ℕ) (v : List ℕ). over (a.p ∷ k ∷ (l ++ v)) a.out.now) c.kind_byte.ensures c.of_contents.ensures
+    ∙ ap₂ (λ (k : ℕ) (v : List ℕ). over (a.p ∷ k ∷ (l ++ v)) a.out.now) c.kind_byte.ensures c.from.ensures

@@ -1,0 +1,2 @@
+-- What is said of the programs' streams.
+pub mod Statuses
