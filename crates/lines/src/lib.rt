@@ -128,8 +128,8 @@ pub fn write_bytes(bytes: &[u8], out: &mut [u8])
     out[..bytes.len()].copy_from_slice(bytes);
 }
 
-// Writes the line of a file that is refused with the number `n`, and gives how many bytes that is. No check has a number
-// of 20 or more, so the first of two digits is 1.
+// Writes the line of a file that is refused with the number `n`, and gives how many bytes that is. It is promised of any number
+// below 20, and so takes no refusal; no check has a number of 20 or more, so the first of two digits is 1.
 pub fn write_refused(n: u8, out: &mut [u8]) -> usize
     requires { (n < 20) × (11 ≤ length out.old) }
     ensures count { result ≡ length (refused_line n) }
