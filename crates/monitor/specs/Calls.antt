@@ -1,5 +1,6 @@
 -- The calls for C and Rust answer one number. What that number tells, and when two such reads can't be told apart.
-use Rattle.std.specs.Prelude.{cond, List, ◌++◌, ◌≢◌, ◌⊎◌, ◌≡◌, ℕ, ◌+◌, ◌*◌, ◌^◌, ◌/◌, ◌%◌, ◌≤◌, ltb, length, drop, Result, Ok, Err}
+use Rattle.std.specs.Prelude.{cond, List, ◌++◌, ◌≢◌, ◌⊎◌, ◌≡◌, ℕ, ◌+◌, ◌*◌, ◌^◌, ◌/◌, ◌%◌, ◌≤◌, ltb, length, drop}
+use Rattle.std.specs.Prelude.{Result, Ok, Err}
 use Rattle.file_sections.specs.Refusals.{refusal_number, refusal_of}
 use Rattle.file_sections.specs.declared.Refusal.{Refusal}
 use Rattle.view.specs.Layout.{records_at}
