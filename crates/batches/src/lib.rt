@@ -11,6 +11,32 @@ const ROOM: usize = 70000;
 // No batch has so many files, and a loop has to end.
 const MOST: usize = 1000000;
 
+// What is printed of each file: its views and a line with a full stop, the same of a day, or its quote.
+#[derive(Clone, Copy)]
+pub enum Kind {
+    Views,
+    DayViews,
+    Quotes,
+}
+
+fn print_stop(rt: &impl Print) -> io::Result<()> {
+    rt.write_all(b".\n")
+}
+
+fn print_one(rt: &impl Print, file: &[u8], kind: Kind) -> io::Result<()> {
+    match kind {
+        Kind::Views => {
+            printing::print_file(rt, file)?;
+            print_stop(rt)
+        }
+        Kind::DayViews => {
+            day_printing::print_day(rt, file)?;
+            print_stop(rt)
+        }
+        Kind::Quotes => quote_printing::print_quote(rt, file),
+    }
+}
+
 // Reads n bytes into `file`, and prints the lines of the file that they are. Tells whether there were so many.
 fn print_sized<R: Read, F: Fn(&[u8]) -> io::Result<()>>(
     reader: &mut R,
@@ -47,7 +73,7 @@ fn print_next<R: Read, F: Fn(&[u8]) -> io::Result<()>>(
 }
 
 // Prints each file of the batch on standard input as `print` does.
-pub fn print_batch<F: Fn(&[u8]) -> io::Result<()>>(rt: &impl Input, print: F) -> io::Result<()>
+pub fn print_each<F: Fn(&[u8]) -> io::Result<()>>(rt: &impl Input, print: F) -> io::Result<()>
     requires { F.IsAlwaysCallable print }
 {
     let mut reader = rt.reader();
@@ -57,4 +83,9 @@ pub fn print_batch<F: Fn(&[u8]) -> io::Result<()>>(rt: &impl Input, print: F) ->
         }
     }
     Ok(())
+}
+
+// Prints each file of the batch on standard input as its kind says.
+pub fn print_batch(rt: &(impl Input + Print), kind: Kind) -> io::Result<()> {
+    print_each(rt, |file| print_one(rt, file, kind))
 }

@@ -18,7 +18,7 @@ use day_file::Day;
 use day_jobs::DayJob;
 use file_sections::Refusal;
 use labels::Label;
-use store::{PLACES, Store};
+use store::Store;
 use view::{FINAL, RECORDS, RESULT, Run, SHOWN};
 use view_fields::RECORD;
 
@@ -95,7 +95,7 @@ fn write_views(day: Day, reader: Label, out: &mut [u8]) -> usize
     ensures long { result ≡ length (views_for reader day.entry.file.now) }
     ensures written { WrittenIfRoom (views_for reader day.entry.file.now) out.old out.new }
 {
-    let mut store = [None; PLACES];
+    let mut store = store::no_records();
     place_inputs(day, &mut store);
     let mut callers = admission::full_allowances(day.header.steps);
     let mut at = 0;

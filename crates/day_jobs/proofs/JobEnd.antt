@@ -8,7 +8,7 @@ use native.Mathlib.Decide.{ℕ_discrete}
 use native.Mathlib.Omega.{arith}
 use lib.Dec.{ltb}
 use lib.ListN.{length, set, length-set}
-use lib.Seq.{ext_get_or, get_or-set_same, get_or-set_other}
+use lib.Seq.{ext_get_or, set-get_or, get_or-set_same, get_or-set_other}
 use borrow.Author.Tests.{lt-ltb, le-ltb}
 use Rattle.model.specs.State.{Store, at, Slot}
 use Rattle.model.specs.declared.Record.{Record}
@@ -42,15 +42,24 @@ end_from_at c p [] q = sym (end_none c (p + q))
 end_from_at c p (x ∷ σ) zero = ap (λ (k : ℕ). end_slot c k x) (let e : p ≡ p + 0 = omega arith in e)
 end_from_at c p (x ∷ σ) (suc q) = end_from_at c (suc p) σ q ∙ ap (λ (k : ℕ). end_slot c k (at σ q)) (let e : suc p + q ≡ p + suc q = omega arith in e)
 
--- a record at a place below c is kept, with the contents that are kept of it
-pub kept_there : (c p : ℕ) (σ : Store) (r : Record) → p < c → at σ p ≡ Some r
-    → set σ p (Some (record { kind = r.kind; label = r.label; contents = kept_contents c r.contents })) ≡ set σ p (end_slot c p (at σ p))
-unfolding kept_slot
-kept_there c p σ r h e = ap (set σ p) (sym (end_kept c p (at σ p) h ∙ ap (kept_slot c) e))
-
 -- the slot at a place once the job has ended
 pub end_at : (c : ℕ) (σ : Store) (q : ℕ) → at (end_job c σ) q ≡ end_slot c q (at σ q)
 end_at c σ q = end_from_at c 0 σ q ∙ ap (λ (k : ℕ). end_slot c k (at σ q)) (let e : 0 + q ≡ q = omega arith in e)
+
+-- ── one place ──
+
+module _ (c p : ℕ) (σ : Store) where
+  pub emptied : c ≤ p → set σ p None ≡ set σ p (end_slot c p (at σ p))
+  emptied h = ap (set σ p) (sym (end_empty c p (at σ p) h))
+
+  pub stays_empty : at σ p ≡ None → σ ≡ set σ p (end_slot c p (at σ p))
+  stays_empty e = sym (set-get_or σ p None) ∙ ap (set σ p) (e ∙ sym (ap (end_slot c p) e ∙ end_none c p))
+
+  -- a record at a place below c is kept, with the contents that are kept of it
+  pub kept_there : (r : Record) → p < c → at σ p ≡ Some r
+      → set σ p (Some (record { kind = r.kind; label = r.label; contents = kept_contents c r.contents })) ≡ set σ p (end_slot c p (at σ p))
+  unfolding kept_slot
+  kept_there r h e = ap (set σ p) (sym (end_kept c p (at σ p) h ∙ ap (kept_slot c) e))
 
 -- ── all places ──
 

@@ -3,7 +3,8 @@
 
 mod job;
 
-ghost use Rattle.std.specs.Prelude.{◌≡◌, ◌+◌, ◌*◌, ◌≤◌, ◌<◌, length};
+ghost use Rattle.std.specs.Prelude.{◌≡◌, ◌+◌, ◌*◌, ◌≤◌, ◌<◌, length, set};
+ghost use Rattle.model.specs.State.{at};
 ghost use Rattle.machine.specs.Steps.{Finishes};
 ghost use Rattle.file_sections.specs.Sections.{record_bytes_of};
 ghost use Rattle.day_file.specs.Sections.{day_sections, job_from};
@@ -13,8 +14,8 @@ ghost use Rattle.day_jobs.specs.Jobs.{run_of};
 use day_file::Day;
 pub use job::DayJob;
 use machine::Program;
-use model::{Contents, Datum, FaultCode, Finished, Slot};
-use store::Store;
+use model::{Contents, Datum, FaultCode, Finished, Record};
+use store::{PLACES, Store};
 
 // ---- the end of a job, of a day with `count` input records
 
@@ -31,22 +32,22 @@ fn kept_contents(count: usize, contents: Contents) -> Contents
 }
 
 // Keeps an input record, and empties any other place.
-#[tactic(auto, unfolding(crate::specs::JobEnd::end_slot, crate::specs::JobEnd::kept_slot))]
-fn end_place(slot: &mut Slot, count: usize, p: usize)
-    ensures { slot.new ≡ end_slot count p slot.old }
+fn end_place(store: &mut Store, count: usize, p: usize)
+    ensures { store.new ≡ set store.old p (end_slot count p (at store.old p)) }
 {
     if count <= p {
-        *slot = None;
-    } else if let Some(r) = slot {
-        r.contents = kept_contents(count, r.contents);
+        store::clear(store, p);
+    } else if let Some(r) = store::load(store, p) {
+        let contents = kept_contents(count, r.contents);
+        store::save(store, p, Record { contents, ..r });
     }
 }
 
 pub fn end_job(store: &mut Store, count: usize)
     ensures { store.new ≡ end_job count store.old }
 {
-    for (p, slot) in store.iter_mut().enumerate() {
-        end_place(slot, count, p);
+    for p in 0..PLACES {
+        end_place(store, count, p);
     }
 }
 

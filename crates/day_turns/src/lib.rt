@@ -12,7 +12,7 @@ ghost use Rattle.day_turns.specs.Keeping.{turn_of, SameViews, Kept};
 use day_file::Day;
 use day_jobs::DayJob;
 pub use kept::KeptJob;
-use store::{PLACES, Store};
+use store::Store;
 
 // How many jobs a day has at most.
 pub const JOBS: usize = 16;
@@ -40,7 +40,7 @@ fn keep_job(job: DayJob, store: &mut Store, kept: &mut Option<KeptJob>)
 pub fn run_day(day: Day, kept: &mut KeptJobs)
     ensures { Kept day.entry.file.now kept.new }
 {
-    let mut store = [None; PLACES];
+    let mut store = store::no_records();
     day::place_inputs(day, &mut store);
     let mut callers = admission::full_allowances(day.header.steps);
     for k in 0..day.header.jobs.count {

@@ -38,7 +38,7 @@ fn write_lines(script: Script, out: &mut [u8]) -> usize
     ensures count { result ≡ length (file_lines script.entry.file.now) }
     ensures written { out.new ≡ over (file_lines script.entry.file.now) out.old }
 {
-    let mut store = [None; PLACES];
+    let mut store = store::no_records();
     let finish = reading::run_file(script, &mut store);
     let run = Run {
         steps: script.header.steps,

@@ -71,7 +71,7 @@ module _ (n : ℕ) (ls : List Label) (e : ls ≡ label_array []) (h : n ≤ 32) 
       let s : length xs ≡ n = q ∙ places in
       ap (λ (r : List Label). xs ++ r) (ap (drop n) e ∙ drop-replicate n 32 no_label ∙ ap (λ (m : ℕ). replicate (32 - m) no_label) (sym s))
 
-bytes_left : (xs : List Label) (bs : List ℕ) → 0 < length bs → labels_with xs (read_labels 0 bs) ≡ None
+pub bytes_left : (xs : List Label) (bs : List ℕ) → 0 < length bs → labels_with xs (read_labels 0 bs) ≡ None
 unfolding read_labels_over
 bytes_left xs [] h = absurd (omega arith)
 bytes_left xs (b ∷ bs) h = refl

@@ -59,7 +59,7 @@ module _ (ls : ℕ → Label) (bs six rest : List ℕ) (a : ℕ) (long : length 
   byte_in k i h e =
       sym (get_or-append six rest 0 k (omega (arith, long))) ∙ ap (λ (l : List ℕ). byte l k) (sym cut) ∙ get_or-drop a bs k 0 ∙ ap (byte bs) e
 
-  record_in : input_record ls six 0 ≡ input_record ls bs a
+  pub record_in : input_record ls six 0 ≡ input_record ls bs a
   unfolding u16 u32
   record_in =
       rw (

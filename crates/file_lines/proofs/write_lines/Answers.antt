@@ -1,5 +1,5 @@
 -- Each turn writes the next label's line behind those before it.
-use Rattle.std.proofs.Common.{◌≡◌, refl, ap, ◌∙◌, arith, List, [], ◌++◌, ℕ, ◌+◌, ◌-◌, ◌≤◌, ◌<◌, length, get_or, take}
+use Rattle.std.proofs.Common.{◌≡◌, ap, ◌∙◌, arith, List, [], ◌++◌, ℕ, ◌+◌, ◌-◌, ◌≤◌, ◌<◌, length, get_or, take}
 use Rattle.std.proofs.lemmas.List.{length-take}
 use Rattle.labels.specs.declared.Label.{Label}
 use Rattle.model.specs.State.{Store}
@@ -44,7 +44,7 @@ module _ (s : Script) (f : Finished) (σ : Store) (ran : Finishes f σ (file_run
       next_line s.file.now s.header.labels.count i (omega arith) (shown i d h)
 
 pub run_file-finish-requires : goal.run_file-finish-requires
-run_file-finish-requires c = refl
+run_file-finish-requires c = c.no_records-store.ensures
 
 pub shared_ref_as_front-reader-items : goal.shared_ref_as_front-reader-items
 shared_ref_as_front-reader-items c = few c.args.script
